@@ -19,7 +19,11 @@ impl Position {
         ensures place { λ r. ⌜ r .place ≡ 0 ⌝ }
         ensures stands { λ r. ⌜ ((xs : List ℕ) → Stands xs r) ⌝ }
     {
-        Position { place: 0, line: 1, start: 0 }
+        Position {
+            place: 0,
+            line: 1,
+            start: 0,
+        }
     }
 
     // The column, from 1.
@@ -55,9 +59,17 @@ fn step(file: &[u8], at: Position) -> Position
 {
     let place = at.place + 1;
     if ends_line(file, at.place) {
-        Position { place, line: at.line + 1, start: place }
+        Position {
+            place,
+            line: at.line + 1,
+            start: place,
+        }
     } else {
-        Position { place, line: at.line, start: at.start }
+        Position {
+            place,
+            line: at.line,
+            start: at.start,
+        }
     }
 }
 
