@@ -1,0 +1,5 @@
+pub mod Numbers
+pub mod Orders
+pub mod Extended
+pub mod Plain
+pub mod Files
