@@ -1,8 +1,7 @@
 // Line and column of a place in a file, for people.
-ghost use Prim.Native.Nat.{_+_, _-_, _<_, _^_, _≤_, min, ℕ};
+ghost use Prim.Native.Nat.{_+_, _-_, _<_, _^_, _≤_, min};
 ghost use Rattle.plotter.specs.Positions.{Stands, endsLine};
 ghost use lib.ListN.{getD, length};
-ghost use mathlib.Core.List.{List};
 ghost use mathlib.Core.Path.{_≡_};
 
 // A place in a file, the number of its line, from 1, and the place where that line starts.
@@ -15,15 +14,13 @@ pub(crate) struct Position {
 
 impl Position {
     // The first place of a file.
-    pub(crate) fn first() -> Position
+    pub(crate) fn first(file: &[u8]) -> Position
         ensures place { λ r. ⌜ r .place ≡ 0 ⌝ }
-        ensures stands { λ r. ⌜ ((xs : List ℕ) → Stands xs r) ⌝ }
+        ensures stands { λ r. ⌜ Stands (now (file .entry)) r ⌝ }
+        ensures bound { λ r. ⌜ r .line ≤ r .place + 1 ⌝ }
     {
-        Position {
-            place: 0,
-            line: 1,
-            start: 0,
-        }
+        let _ = file;
+        Position { place: 0, line: 1, start: 0 }
     }
 
     // The column, from 1.
