@@ -1,0 +1,3 @@
+pub mod Plane
+pub mod Points
+pub mod Placed
