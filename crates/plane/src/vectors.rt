@@ -52,7 +52,8 @@ fn minus(p: i64, q: i64) -> i64
 
 fn plus(p: i64, q: i64) -> i64
     requires { ⌜ (natAbs p ≤ 4000000000000) × (natAbs q ≤ 4000000000000) ⌝ }
-    ensures { λ r. ⌜ r ≡ p +ℤ q ⌝ }
+    ensures value { λ r. ⌜ r ≡ p +ℤ q ⌝ }
+    ensures small { λ r. ⌜ natAbs r ≤ 8000000000000 ⌝ }
 {
     p + q
 }
@@ -66,21 +67,31 @@ pub fn cross(u: Vector, w: Vector) -> i64
 
 /// The dot product.
 pub fn dot(u: Vector, w: Vector) -> i64
-    ensures { λ r. ⌜ r ≡ dotOf (vectorAt u) (vectorAt w) ⌝ }
+    ensures value { λ r. ⌜ r ≡ dotOf (vectorAt u) (vectorAt w) ⌝ }
+    ensures small { λ r. ⌜ natAbs r ≤ 8000000000000 ⌝ }
 {
     plus(product(u.x, w.x), product(u.y, w.y))
 }
 
 /// The square of the length.
 pub fn norm(u: Vector) -> i64
-    ensures { λ r. ⌜ r ≡ normOf (vectorAt u) ⌝ }
+    ensures value { λ r. ⌜ r ≡ normOf (vectorAt u) ⌝ }
+    ensures small { λ r. ⌜ natAbs r ≤ 8000000000000 ⌝ }
 {
     dot(u, u)
 }
 
+fn ticks(half: Half) -> i64
+    ensures { λ r. ⌜ r ≡ pos (half .ticks) ⌝ }
+{
+    half.ticks as i64
+}
+
 /// The square of a half.
 pub fn squared(half: Half) -> i64
-    ensures { λ r. ⌜ r ≡ pos (half .ticks * half .ticks) ⌝ }
+    ensures value { λ r. ⌜ r ≡ pos (half .ticks * half .ticks) ⌝ }
+    ensures small { λ r. ⌜ natAbs r ≤ 4000000000000 ⌝ }
 {
-    half.ticks as i64 * half.ticks as i64
+    let r = ticks(half);
+    product(r, r)
 }

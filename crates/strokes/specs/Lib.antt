@@ -1,2 +1,3 @@
 pub mod Measures
 pub mod Strokes
+pub mod Arcs

@@ -9,6 +9,7 @@
 // Sums and products of coordinates fit 64 bits for any places; the squares of products take 128 bits.
 // `laws` states what follows from the definitions.
 
+pub mod arc_shape;
 pub mod measures;
 pub mod stroke_shape;
 pub mod strokes;
