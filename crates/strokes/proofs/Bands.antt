@@ -95,7 +95,7 @@ sq-neg c = sq-pos (negℤ c) ∙ (ap (λ (t : ℕ). pos (t * t)) (abs-neg c) ∙
 le-at : (a b c d : ℤ) → a ≡ b → c ≡ d → leZ b d ≡ true → leZ a c ≡ true
 le-at a b c d p q h = cc
 
-eqZ-refl : (a : ℤ) → eqZ a a ≡ true
+pub eqZ-refl : (a : ℤ) → eqZ a a ≡ true
 eqZ-refl (pos a) = eq-eqb a a refl
 eqZ-refl (negsuc a) = eq-eqb a a refl
 

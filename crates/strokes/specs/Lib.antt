@@ -1,3 +1,4 @@
 pub mod Measures
 pub mod Strokes
 pub mod Arcs
+pub mod Laws

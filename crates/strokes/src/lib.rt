@@ -10,6 +10,7 @@
 // `laws` states what follows from the definitions.
 
 pub mod arc_shape;
+pub mod laws;
 pub mod measures;
 pub mod stroke_shape;
 pub mod strokes;

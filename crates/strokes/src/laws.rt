@@ -1,0 +1,42 @@
+ghost use mathlib.Core.Path.{_≡_};
+ghost use Rattle.strokes.specs.Laws.{SameIsEqual, StrokeToItselfIsDisc, StrokeReversed, ArcReversed, StrokesMove};
+
+/// The test on two points tells whether they are equal.
+pub fn same_is_equal() -> u8
+    ensures value { λ r. ⌜ r ≡ 0 ⌝ }
+    ensures law { λ _. ⌜ SameIsEqual ⌝ }
+{
+    0
+}
+
+/// A stroke that goes nowhere is a disc.
+pub fn stroke_to_itself_is_disc() -> u8
+    ensures value { λ r. ⌜ r ≡ 0 ⌝ }
+    ensures law { λ _. ⌜ StrokeToItselfIsDisc ⌝ }
+{
+    0
+}
+
+/// A stroke and its reverse cover the same points.
+pub fn stroke_reversed() -> u8
+    ensures value { λ r. ⌜ r ≡ 0 ⌝ }
+    ensures law { λ _. ⌜ StrokeReversed ⌝ }
+{
+    0
+}
+
+/// A clockwise arc covers what the counterclockwise arc from its end to its start covers.
+pub fn arc_reversed() -> u8
+    ensures value { λ r. ⌜ r ≡ 0 ⌝ }
+    ensures law { λ _. ⌜ ArcReversed ⌝ }
+{
+    0
+}
+
+/// Moving a stroke and the point together changes nothing.
+pub fn strokes_move() -> u8
+    ensures value { λ r. ⌜ r ≡ 0 ⌝ }
+    ensures law { λ _. ⌜ StrokesMove ⌝ }
+{
+    0
+}
