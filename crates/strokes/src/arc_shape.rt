@@ -203,14 +203,8 @@ pub impl Shape for ArcStroke as ArcShape {
     ghost boxed = { λ s. arcBox (s .half .ticks) (placeAt (s .centre)) (placeAt (s .start)) (placeAt (s .end)) };
 
     fn covers(&self, p: Point) -> bool {
-        in_arc(
-            self.half,
-            self.clockwise,
-            self.centre,
-            self.start,
-            self.end,
-            p,
-        )
+        let c = self.centre;
+        in_arc(self.half, self.clockwise, c, self.start, self.end, p)
     }
 
     fn bounds(&self) -> Bounds {
