@@ -1,3 +1,4 @@
 pub mod Plane
 pub mod Points
 pub mod Placed
+pub mod Laws

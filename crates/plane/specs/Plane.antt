@@ -1,5 +1,7 @@
 -- whole points of the plane, and what is measured between them
-use lib.IntN.{ℤ, _+ℤ_, _-ℤ_, _*ℤ_}
+use mathlib.Core.Bool.{Bool, false, _&&_}
+use lib.Dec.{eqb}
+use lib.IntN.{ℤ, pos, negsuc, _+ℤ_, _-ℤ_, _*ℤ_}
 
 -- a point, or the way from one point to another
 pub record At : Type 0 where
@@ -8,6 +10,17 @@ pub record At : Type 0 where
 
 abbrev pub spot : ℤ → ℤ → At
 spot x y = record { x = x; y = y }
+
+-- a = b
+abbrev pub eqZ : ℤ → ℤ → Bool
+eqZ (pos a) (pos b) = eqb a b
+eqZ (pos a) (negsuc b) = false
+eqZ (negsuc a) (pos b) = false
+eqZ (negsuc a) (negsuc b) = eqb a b
+
+-- the two points are one
+abbrev pub same : At → At → Bool
+same a b = eqZ (a .x) (b .x) && eqZ (a .y) (b .y)
 
 -- the way from a to b, as b - a
 abbrev pub way : At → At → At

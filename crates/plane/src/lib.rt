@@ -11,3 +11,4 @@ pub mod make;
 pub mod placing;
 pub mod points;
 pub mod vectors;
+pub mod laws;

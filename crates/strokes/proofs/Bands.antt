@@ -12,13 +12,13 @@ use borrow.Author.Differences.{ints, up, down, product-is}
 use Rattle.std.specs.Numbers.{minZ, maxZ}
 use Rattle.std.proofs.shelf.Tests.{and-parts, or-cases, and-from, cases-eq, not-true, eq-eqb, both-ways}
 use Rattle.std.proofs.shelf.Signed.{clamps}
-use Rattle.plane.specs.Plane.{At, spot, way, crossOf, dotOf, normOf}
+use Rattle.plane.specs.Plane.{At, spot, way, crossOf, dotOf, normOf, eqZ, same}
 use Rattle.plane.proofs.Sizes.{abs-neg, abs-mul}
+use Rattle.plane.proofs.Equal.{eqZ-refl}
 use Rattle.plane.proofs.Ring.{sq-le, sq-pos, norm-pos, mulZ-add, mulZ-neg, mulZ-assoc, addZ-mul}
 use Rattle.shapes.specs.Box.{Inside, Encloses}
 use Rattle.shapes.specs.Flashes.{inCircle}
 use Rattle.shapes.proofs.Boxes.{circle-spans}
-use Rattle.strokes.specs.Measures.{eqZ, same}
 use Rattle.strokes.specs.Strokes.{inBand, inStroke, strokeAt, strokeBox}
 
 -- (u² + v²) x = (u x + v y) u - (u y - v x) v
@@ -94,10 +94,6 @@ sq-neg c = sq-pos (negℤ c) ∙ (ap (λ (t : ℕ). pos (t * t)) (abs-neg c) ∙
 
 le-at : (a b c d : ℤ) → a ≡ b → c ≡ d → leZ b d ≡ true → leZ a c ≡ true
 le-at a b c d p q h = cc
-
-pub eqZ-refl : (a : ℤ) → eqZ a a ≡ true
-eqZ-refl (pos a) = eq-eqb a a refl
-eqZ-refl (negsuc a) = eq-eqb a a refl
 
 none-same : (a b : ℤ) → natAbs (b -ℤ a) ≡ 0 → eqZ a b ≡ true
 none-same a b h = let e : b ≡ a = omega (arith, ints) in ap (eqZ a) e ∙ eqZ-refl a

@@ -8,36 +8,16 @@ use lib.Dec.{eqb, ltb}
 use lib.IntN.{ℤ, pos, negsuc, _+ℤ_, _-ℤ_, _*ℤ_, negℤ, *ℤ-comm}
 use lib.Signed.{leZ}
 use borrow.Author.Differences.{ints}
-use Rattle.std.proofs.shelf.Tests.{and-parts, and-from, eqb-true, cases-bool, both-ways}
+use Rattle.std.proofs.shelf.Tests.{cases-bool, both-ways}
 use Rattle.std.proofs.shelf.Ways.{tells}
-use Rattle.plane.specs.Plane.{At, spot, way, moved, normOf}
+use Rattle.plane.specs.Plane.{At, spot, way, moved, normOf, eqZ, same}
 use Rattle.plane.proofs.Ring.{mulZ-add, mulZ-neg, way-moved}
+use Rattle.plane.proofs.Equal.{eqZ-refl, eqZ-equal, same-refl}
 use Rattle.shapes.specs.Flashes.{near, inCircle}
-use Rattle.strokes.specs.Measures.{eqZ, same}
 use Rattle.strokes.specs.Strokes.{inBand, inStroke}
 use Rattle.strokes.specs.Arcs.{inSector, inSweep, inTurn, inRing, inRingOf, excessOf, inArc}
-use Rattle.strokes.specs.Laws.{SameIsEqual, StrokeToItselfIsDisc, StrokeReversed, ArcReversed, StrokesMove}
-use Rattle.strokes.proofs.Bands.{sq-neg, eqZ-refl}
-
-eqZ-equal : (a b : ℤ) → eqZ a b ≡ true → a ≡ b
-eqZ-equal (pos a) (pos b) h = ap pos (eqb-true a b h)
-eqZ-equal (pos a) (negsuc b) h = let z : _≡_ {A = ℕ} 0 1 = cc in absurd (omega arith)
-eqZ-equal (negsuc a) (pos b) h = let z : _≡_ {A = ℕ} 0 1 = cc in absurd (omega arith)
-eqZ-equal (negsuc a) (negsuc b) h = ap negsuc (eqb-true a b h)
-
-same-refl : (a : At) → same a a ≡ true
-same-refl a = and-from (eqZ (a .x) (a .x)) (eqZ (a .y) (a .y)) (eqZ-refl (a .x)) (eqZ-refl (a .y))
-
-pub same-is-equal : SameIsEqual
-same-is-equal =
-    record {
-      yes = λ a b h.
-          let p = and-parts (eqZ (a .x) (b .x)) (eqZ (a .y) (b .y)) h in
-          let x = eqZ-equal (a .x) (b .x) (p .0) in
-          let y = eqZ-equal (a .y) (b .y) (p .1) in
-          ap (λ (z : ℤ). spot z (a .y)) x ∙ ap (spot (b .x)) y;
-      always = same-refl;
-    }
+use Rattle.strokes.specs.Laws.{StrokeToItselfIsDisc, StrokeReversed, ArcReversed, StrokesMove}
+use Rattle.strokes.proofs.Bands.{sq-neg}
 
 eqb-swap : (a b : ℕ) → eqb a b ≡ eqb b a
 eqb-swap a b = grind (arith, tells)

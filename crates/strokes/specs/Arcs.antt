@@ -5,10 +5,9 @@ use lib.Dec.{leb, ltb}
 use lib.IntN.{ℤ, pos, _-ℤ_, _*ℤ_, natAbs}
 use lib.Signed.{leZ, ltZ}
 use Rattle.plane.specs.declared.points.Bounds.{Bounds}
-use Rattle.plane.specs.Plane.{At, spot, way, crossOf, normOf}
+use Rattle.plane.specs.Plane.{At, spot, way, crossOf, normOf, same}
 use Rattle.shapes.specs.Box.{boxAbout}
 use Rattle.shapes.specs.Flashes.{inCircle}
-use Rattle.strokes.specs.Measures.{same}
 
 -- t lies in the turn from u counterclockwise to v: if cross(u, v) ≥ 0, cross(u, t) ≥ 0 and cross(t, v) ≥ 0; otherwise not both cross(v, t) > 0 and cross(t, u) > 0
 abbrev pub inTurn : At → At → At → Bool

@@ -5,14 +5,8 @@ use Prim.Native.Nat.{ℕ}
 use lib.IntN.{ℤ, _+ℤ_}
 use Rattle.plane.specs.Plane.{At, way, moved, normOf}
 use Rattle.shapes.specs.Flashes.{inCircle}
-use Rattle.strokes.specs.Measures.{same}
 use Rattle.strokes.specs.Strokes.{inStroke, strokeAt}
 use Rattle.strokes.specs.Arcs.{inArc, arcAt}
-
--- the test on two points tells whether they are equal
-pub record SameIsEqual : Type 0 where
-  pub yes : (a b : At) → same a b ≡ true → a ≡ b
-  pub always : (a : At) → same a a ≡ true
 
 -- a stroke that goes nowhere is the disc at its place, and not a band
 abbrev pub StrokeToItselfIsDisc : Type 0

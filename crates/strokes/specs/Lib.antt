@@ -1,4 +1,3 @@
-pub mod Measures
 pub mod Strokes
 pub mod Arcs
 pub mod Laws

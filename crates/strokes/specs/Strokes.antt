@@ -6,9 +6,8 @@ use lib.IntN.{ℤ, pos, _+ℤ_, _-ℤ_, _*ℤ_}
 use lib.Signed.{leZ}
 use Rattle.std.specs.Numbers.{minZ, maxZ}
 use Rattle.plane.specs.declared.points.Bounds.{Bounds}
-use Rattle.plane.specs.Plane.{At, spot, way, crossOf, dotOf, normOf}
+use Rattle.plane.specs.Plane.{At, spot, way, crossOf, dotOf, normOf, same}
 use Rattle.shapes.specs.Flashes.{inCircle}
-use Rattle.strokes.specs.Measures.{same}
 
 -- beside the way d, at most r from it: with N = |d|², 0 ≤ dot(d, w) ≤ N and cross(d, w)² ≤ r² N
 abbrev pub inBand : ℕ → At → At → Bool

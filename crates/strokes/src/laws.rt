@@ -1,13 +1,5 @@
 ghost use mathlib.Core.Path.{_≡_};
-ghost use Rattle.strokes.specs.Laws.{SameIsEqual, StrokeToItselfIsDisc, StrokeReversed, ArcReversed, StrokesMove};
-
-/// The test on two points tells whether they are equal.
-pub fn same_is_equal() -> u8
-    ensures value { λ r. ⌜ r ≡ 0 ⌝ }
-    ensures law { λ _. ⌜ SameIsEqual ⌝ }
-{
-    0
-}
+ghost use Rattle.strokes.specs.Laws.{StrokeToItselfIsDisc, StrokeReversed, ArcReversed, StrokesMove};
 
 /// A stroke that goes nowhere is a disc.
 pub fn stroke_to_itself_is_disc() -> u8

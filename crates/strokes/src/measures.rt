@@ -2,8 +2,8 @@ ghost use mathlib.Core.Path.{_≡_};
 ghost use mathlib.Core.Bool.{_&&_};
 ghost use lib.IntN.{_*ℤ_, pos};
 ghost use lib.Signed.{leZ};
+ghost use Rattle.plane.specs.Plane.{eqZ, same};
 ghost use Rattle.plane.specs.Points.{placeAt};
-ghost use Rattle.strokes.specs.Measures.{eqZ, same};
 use plane::points::Place;
 
 fn is_equal(a: i32, b: i32) -> bool
