@@ -7,8 +7,8 @@
 //
 // Since the ranges stand in the types, no function here wants a condition, and no product can pass its number type.
 
+pub mod laws;
 pub mod make;
 pub mod placing;
 pub mod points;
 pub mod vectors;
-pub mod laws;

@@ -1,0 +1,4 @@
+pub mod Chain
+pub mod Closed
+pub mod Placed
+pub mod Made
