@@ -11,5 +11,6 @@
 pub mod chain;
 pub mod contour;
 pub mod contour_shape;
+pub mod laws;
 pub mod make;
 pub mod pieces;
