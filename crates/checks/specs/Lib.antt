@@ -1,0 +1,2 @@
+pub mod ShapeSamples
+pub mod Samples

@@ -1,0 +1,12 @@
+-- all worked examples
+use mathlib.Core.Bool.{Bool, true, _&&_}
+use mathlib.Core.List.{List, [], _∷_}
+use Rattle.checks.specs.ShapeSamples.{shapeSamples}
+
+-- each of the list is true
+abbrev pub allTrue : List Bool → Bool
+allTrue [] = true
+allTrue (b ∷ bs) = b && allTrue bs
+
+abbrev pub samples : List Bool
+samples = shapeSamples

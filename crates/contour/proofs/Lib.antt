@@ -1,0 +1,4 @@
+pub mod Parity
+pub mod Walk
+pub mod Enclosed
+pub mod LawsOfContours

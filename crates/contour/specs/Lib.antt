@@ -1,0 +1,5 @@
+pub mod Chain
+pub mod Closed
+pub mod Placed
+pub mod Made
+pub mod Laws

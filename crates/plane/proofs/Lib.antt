@@ -1,0 +1,3 @@
+pub mod Sizes
+pub mod Ring
+pub mod Equal

@@ -1,0 +1,4 @@
+pub mod Plane
+pub mod Points
+pub mod Placed
+pub mod Laws

@@ -1,0 +1,3 @@
+pub mod Strokes
+pub mod Arcs
+pub mod Laws
