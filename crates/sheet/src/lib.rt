@@ -4,3 +4,4 @@ pub mod closed;
 pub mod fault;
 pub mod header;
 pub mod open;
+pub mod whole;
