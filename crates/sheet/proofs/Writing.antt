@@ -8,6 +8,7 @@ use native.Mathlib.Numerals.{add-one}
 use native.Mathlib.Omega.{arith}
 use lib.Dec.{leb, ltb, eqb}
 use lib.ListN.{length, take, drop}
+use Rattle.std.proofs.shelf.Bits.{mul-le}
 use Rattle.std.proofs.shelf.Lists.{length-append, take-append-drop}
 use Rattle.std.proofs.shelf.Tests.{false≢true, leb-true, le-leb, and-from, and-right}
 use Rattle.std.proofs.shelf.Ways.{tells}
@@ -29,6 +30,14 @@ length-rows m zero = omega arith
 length-rows m (suc n) =
     length-append (rows m n) (rowBytes m n)
     ∙ omega (arith, length-rows m n, length-rowBytes m n, add-mul n 1 (bytesFor (m .frame .width)))
+
+-- the rows written so far end within the sheet
+pub rows-within : (m : Meaning) (n : ℕ) → n ≤ m .frame .height
+    → length (header (m .frame .width) (m .frame .height)) + length (rows m n) ≤ sheetLength (m .frame .width) (m .frame .height)
+unfolding sheetLength
+rows-within m n h =
+    let b = bytesFor (m .frame .width) in
+    omega (arith, length-rows m n, mul-le n b (m .frame .height) b h (omega arith))
 
 -- a film's row is taken where the sheet has the film's size and waits for that row
 pub takes : (m : Meaning) (n room : ℕ) → n < m .frame .height → sheetLength (m .frame .width) (m .frame .height) ≤ room

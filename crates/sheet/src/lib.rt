@@ -3,5 +3,6 @@ pub mod calls;
 pub mod closed;
 pub mod fault;
 pub mod header;
+pub mod laws;
 pub mod open;
 pub mod whole;
