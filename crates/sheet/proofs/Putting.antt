@@ -10,7 +10,7 @@ use Rattle.std.specs.Written.{decimal}
 use Rattle.std.proofs.shelf.Decimals.{decimal-digit, decimal-step}
 use Rattle.std.proofs.shelf.Edits.{paste-paste, paste-all, length-paste}
 use Rattle.std.proofs.shelf.Lists.{set-split, length-push, length-append}
-use Rattle.sheet.specs.Sheet.{put, Put, header}
+use Rattle.sheet.specs.Sheet.{put, Put, header, sheetLength}
 
 put-paste : (at : ℕ) (ys out : List ℕ) → put at ys out ≡ paste out at ys (length ys)
 put-paste at ys out = sym (paste-all out at ys (length ys) refl)
@@ -55,3 +55,7 @@ length-digit n h = ap length (decimal-digit n h)
 pub length-header : (w h : ℕ) → length (header w h) ≡ length (decimal w) + length (decimal h) + 5
 unfolding header
 length-header w h = simp length-append (omega arith)
+
+pub header-fits : (w h : ℕ) → length (decimal w) + length (decimal h) + 5 ≤ sheetLength w h
+unfolding sheetLength
+header-fits w h = omega (arith, length-header w h)

@@ -4,7 +4,7 @@ use mathlib.Core.Bool.{Bool, true, false, cond, _&&_}
 use mathlib.Core.List.{List, [], _∷_, _++_, append-assoc}
 use mathlib.Core.Logic.{_⊎_, inl, inr, ⊎-elim}
 use Prim.Native.Nat.{ℕ, zero, suc, _+_, _-_, _*_, _/_, _%_, _^_, _<_, _≤_}
-use native.Mathlib.Nat.{zero-add, two-pow-succ, div-div-eq-div-mul}
+use native.Mathlib.Nat.{two-pow-succ, div-div-eq-div-mul}
 use native.Mathlib.Numerals.{add-one}
 use native.Mathlib.Omega.{arith}
 use lib.Chars.{codes}
@@ -27,9 +27,9 @@ use Rattle.film.proofs.Packing.{length-rowBytes}
 use Rattle.sheet.specs.Sheet.{header, sheetSized, sheetLength, put, opened, rowOutput}
 use Rattle.sheet.specs.Whole.{rows, sheetBytes, sheetAt, rowByRow, filmOutput}
 use Rattle.sheet.specs.Reading.{numberAt, past, readWidth, readHeight, raster, readPixel, ReadsBack, RowsReadBack}
-use Rattle.sheet.proofs.Putting.{put-put, length-put}
+use Rattle.sheet.proofs.Putting.{length-put}
 use Rattle.sheet.proofs.Rows.{header-within}
-use Rattle.sheet.proofs.Writing.{length-rows, rows-within, rows-more, put-none}
+use Rattle.sheet.proofs.Writing.{length-rows, rows-within, rows-more, put-none, all-rows}
 
 -- digits and one byte that is none
 leading-digits : (ds : List ℕ) (b : ℕ) (ys : List ℕ) → allDigits ds ≡ true → asciiDigit b ≡ false → leading asciiDigit (ds ++ b ∷ ys) ≡ length ds
@@ -59,14 +59,14 @@ bit-of : (p : ℕ → Bool) (c n i : ℕ) → i < n → binary p c n / 2 ^ (n - 
 bit-of p c zero i h = absurd (omega arith)
 bit-of p c (suc n) i h = ⊎-elim
     (λ (l : i < n).
-      let e : suc n - 1 - i ≡ suc (n - 1 - i) = omega arith in
-      let half : (2 * binary p c n + cond (p (c + n)) 1 0) / 2 ≡ binary p c n = grind (arith, tells) in
-      let two : 2 ^ suc (n - 1 - i) ≡ 2 * 2 ^ (n - 1 - i) = omega (arith, two-pow-succ (n - 1 - i)) in
-      rw e (rw two (sym (ap (λ k. k % 2) (div-div-eq-div-mul (2 * binary p c n + cond (p (c + n)) 1 0) 2 (2 ^ (n - 1 - i)))) ∙ ap (λ k. k / 2 ^ (n - 1 - i) % 2) half ∙ bit-of p c n i l)))
+    let e : suc n - 1 - i ≡ suc (n - 1 - i) = omega arith in
+    let half : (2 * binary p c n + cond (p (c + n)) 1 0) / 2 ≡ binary p c n = grind (arith, tells) in
+    let two : 2 ^ suc (n - 1 - i) ≡ 2 * 2 ^ (n - 1 - i) = omega (arith, two-pow-succ (n - 1 - i)) in
+    rw e (rw two (sym (ap (λ k. k % 2) (div-div-eq-div-mul (2 * binary p c n + cond (p (c + n)) 1 0) 2 (2 ^ (n - 1 - i)))) ∙ ap (λ k. k / 2 ^ (n - 1 - i) % 2) half ∙ bit-of p c n i l)))
     (λ (l : n ≤ i).
-      let e : i ≡ n = omega arith in
-      let z : suc n - 1 - n ≡ 0 = omega arith in
-      rw e (rw z (grind (arith, tells))))
+    let e : i ≡ n = omega arith in
+    let z : suc n - 1 - n ≡ 0 = omega arith in
+    rw e (rw z (grind (arith, tells))))
     (cases-lt i n)
 
 -- byte j of row r
@@ -77,13 +77,13 @@ rows-at m zero r j rest h l = absurd (omega arith)
 rows-at m (suc n) r j rest h l = ap (λ ys. getD ys (r * bytesFor (m .frame .width) + j) 0) (append-assoc (rows m n) (rowBytes m n) rest) ∙ ⊎-elim
     (λ (k : r < n). rows-at m n r j (rowBytes m n ++ rest) k l)
     (λ (k : n ≤ r).
-      let b = bytesFor (m .frame .width) in
-      let e : r ≡ n = omega arith in
-      let long = length-rowBytes m n in
-      rw e (getD-append-right (rows m n) (rowBytes m n ++ rest) (n * b) (n * b + j) 0 (length-rows m n) (omega arith)
-      ∙ ap (λ i. getD (rowBytes m n ++ rest) i 0) (omega arith)
-      ∙ getD-append-left (rowBytes m n) rest 0 j (omega arith)
-      ∙ getD-map-counting (byteOf (inked m n)) 0 b j j 0 l (omega arith)))
+    let b = bytesFor (m .frame .width) in
+    let e : r ≡ n = omega arith in
+    let long = length-rowBytes m n in
+    rw e (getD-append-right (rows m n) (rowBytes m n ++ rest) (n * b) (n * b + j) 0 (length-rows m n) (omega arith)
+    ∙ ap (λ i. getD (rowBytes m n ++ rest) i 0) (omega arith)
+    ∙ getD-append-left (rowBytes m n) rest 0 j (omega arith)
+    ∙ getD-map-counting (byteOf (inked m n)) 0 b j j 0 l (omega arith)))
     (cases-lt r n)
 
 -- the bytes of a sheet, part by part
@@ -114,10 +114,10 @@ reads-parts m rest xs w h e =
       width = wide;
       height = ap numberAt first ∙ reads-number (m .frame .height) 10 (rows m (m .frame .height) ++ rest) h refl;
       pixels = λ c r lc lr.
-        ap (λ k. eqb (getD (raster xs) (r * ((k + 7) / 8) + c / 8) 0 / 2 ^ (7 - c % 8) % 2) 1) wide
-        ∙ ap (λ ys. eqb (getD ys (r * bytesFor w′ + c / 8) 0 / 2 ^ (7 - c % 8) % 2) 1) second
-        ∙ ap (λ k. eqb (k / 2 ^ (7 - c % 8) % 2) 1) (rows-at m (m .frame .height) r (c / 8) rest lr (omega arith))
-        ∙ pixel-of m c r lc;
+          ap (λ k. eqb (getD (raster xs) (r * ((k + 7) / 8) + c / 8) 0 / 2 ^ (7 - c % 8) % 2) 1) wide
+          ∙ ap (λ ys. eqb (getD ys (r * bytesFor w′ + c / 8) 0 / 2 ^ (7 - c % 8) % 2) 1) second
+          ∙ ap (λ k. eqb (k / 2 ^ (7 - c % 8) % 2) 1) (rows-at m (m .frame .height) r (c / 8) rest lr (omega arith))
+          ∙ pixel-of m c r lc;
     }
 
 pub reads-back : (m : Meaning) (rest xs : List ℕ) → sheetSized (m .frame .width) (m .frame .height) ≡ true → xs ≡ sheetBytes m ++ rest → ReadsBack xs m
@@ -139,14 +139,10 @@ row-by-row m (suc n) out s l h =
     let k = length-put 0 head out (omega (arith, header-within (m .frame .width) (m .frame .height))) in
     let below = row-by-row m n out s l (omega arith) in
     let long : length (rowByRow m n out) ≡ length out =
-      ap length below ∙ length-put (length head) (rows m n) mid (omega (arith, rows-within m n (omega arith))) ∙ k in
+    ap length below ∙ length-put (length head) (rows m n) mid (omega (arith, rows-within m n (omega arith))) ∙ k in
     rows-more m n mid (rowByRow m n out) (omega arith) (omega arith) (omega (arith, header-within (m .frame .width) (m .frame .height))) below
     ∙ ap (λ j. put (length head) (rows m j) mid) (add-one n)
 
 pub rows-read-back : RowsReadBack
 rows-read-back m out s l =
-    let head = header (m .frame .width) (m .frame .height) in
-    reads-back m (drop (0 + length (sheetBytes m)) out) _ s
-    (row-by-row m (m .frame .height) out s l (omega arith)
-    ∙ ap (λ k. put k (rows m (m .frame .height)) (put 0 head out)) (sym (zero-add (length head)))
-    ∙ put-put 0 head (rows m (m .frame .height)) out (omega arith))
+    reads-back m (drop (0 + length (sheetBytes m)) out) _ s (row-by-row m (m .frame .height) out s l (omega arith) ∙ all-rows m out)

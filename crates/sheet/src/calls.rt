@@ -47,7 +47,12 @@ impl OpenSheet {
     }
 
     // Writes a row of a film as the next row of the sheet.
-    pub fn write_row<F: Film>(&mut self, film: &F, row: u32, out: &mut [u8]) -> Result<(), SheetFault>
+    pub fn write_row<F: Film>(
+        &mut self,
+        film: &F,
+        row: u32,
+        out: &mut [u8],
+    ) -> Result<(), SheetFault>
         ensures answer { λ r. ⌜ told r ≡ rowAnswer (sheetOf (now (self .entry))) (meaning (now (film .entry))) row (length (now (out .entry))) ⌝ }
         ensures output { λ _. ⌜ now (out .exit) ≡ rowOutput (sheetOf (now (self .entry))) (meaning (now (film .entry))) row (now (out .entry)) ⌝ }
         ensures sheet { λ _. ⌜ sheetOf (now (self .exit)) ≡ rowSheet (sheetOf (now (self .entry))) (meaning (now (film .entry))) row (length (now (out .entry))) ⌝ }

@@ -81,7 +81,7 @@ fn put_number(out: &mut [u8], at: usize, n: u32) -> usize
 
 // Puts the header at the front of an output.
 pub(crate) fn put_header(out: &mut [u8], width: u32, height: u32)
-    requires { ⌜ length (header width height) ≤ length (now out) ⌝ }
+    requires { ⌜ sheetLength width height ≤ length (now out) ⌝ }
     ensures { λ _. ⌜ now (out .exit) ≡ put 0 (header width height) (now (out .entry)) ⌝ }
 {
     let mut at = put_byte(out, 0, b'P');

@@ -1,33 +1,33 @@
 use native.Mathlib.Omega.{arith}
 use Rattle.sheet.specs.Sheet.{header}
-use Rattle.sheet.proofs.Putting.{length-header, puts}
+use Rattle.sheet.proofs.Putting.{header-fits, puts}
 use Rattle.sheet.proofs.header.put_header.Needs as need
 
 pub put-byte-at-requires : need.put-byte-at-requires
-put-byte-at-requires c κs = omega (arith, length-header (c .args .width) (c .args .height))
+put-byte-at-requires c κs = omega (arith, header-fits (c .args .width) (c .args .height))
 
 pub put-byte-at-requires-2 : need.put-byte-at-requires-2
-put-byte-at-requires-2 c κs = omega (arith, length-header (c .args .width) (c .args .height))
+put-byte-at-requires-2 c κs = omega (arith, header-fits (c .args .width) (c .args .height))
 
 pub put-byte-at-requires-3 : need.put-byte-at-requires-3
-put-byte-at-requires-3 c κs = omega (arith, length-header (c .args .width) (c .args .height))
+put-byte-at-requires-3 c κs = omega (arith, header-fits (c .args .width) (c .args .height))
 
 pub put-number-at-requires : need.put-number-at-requires
-put-number-at-requires c κs = omega (arith, length-header (c .args .width) (c .args .height))
+put-number-at-requires c κs = omega (arith, header-fits (c .args .width) (c .args .height))
 
 pub put-byte-at-requires-4 : need.put-byte-at-requires-4
-put-byte-at-requires-4 c κs = omega (arith, length-header (c .args .width) (c .args .height))
+put-byte-at-requires-4 c κs = omega (arith, header-fits (c .args .width) (c .args .height))
 
 pub put-number-at-requires-2 : need.put-number-at-requires-2
-put-number-at-requires-2 c κs = omega (arith, length-header (c .args .width) (c .args .height))
+put-number-at-requires-2 c κs = omega (arith, header-fits (c .args .width) (c .args .height))
 
 pub put-byte-requires : need.put-byte-requires
-put-byte-requires c κs = omega (arith, length-header (c .args .width) (c .args .height))
+put-byte-requires c κs = omega (arith, header-fits (c .args .width) (c .args .height))
 
 pub returns : need.returns
 unfolding header
 returns c =
-    let l = length-header (c .args .width) (c .args .height) in
+    let l = header-fits (c .args .width) (c .args .height) in
     let a = c .put-byte-at .ensures in
     let b = c .put-byte-at-2 .ensures in
     let d = c .put-byte-at-3 .ensures in

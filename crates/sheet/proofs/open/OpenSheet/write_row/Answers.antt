@@ -10,6 +10,6 @@ put-row-requires g c κs =
     record {
       on = omega arith;
       room = row-room (c .args .self .now .width) (c .args .self .now .height) (c .args .self .now .written) (c .row-place-place .result)
-        (g .F·Film .meaning (c .args .film .now) .frame .width) (c .whole-length .result) _ (c .if-self .left) (c .row-place-place .ensures .is)
-        (ap (λ f. f .width) (sym frame) ∙ c .if-n-self .left) (c .whole-length .ensures) (c .if-out-whole-length .left);
+          (g .F·Film .meaning (c .args .film .now) .frame .width) (c .whole-length .result) _ (c .if-self .left) (c .row-place-place .ensures .is)
+          (ap (λ f. f .width) (sym frame) ∙ c .if-n-self .left) (c .whole-length .ensures) (c .if-out-whole-length .left);
     }

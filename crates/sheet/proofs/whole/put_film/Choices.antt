@@ -3,7 +3,7 @@ use lib.ListN.{length}
 use Rattle.sheet.specs.Sheet.{header, put}
 use Rattle.sheet.specs.Made.{sheetOf}
 use Rattle.sheet.specs.Whole.{rows, sheetAt}
-use Rattle.sheet.proofs.whole.write_film.Given as given
+use Rattle.sheet.proofs.whole.put_film.Given as given
 
 -- the rows above `row` stand after the header
 abbrev pub Inv-loop-row : given.InvT-loop-row
