@@ -1,0 +1,5 @@
+pub mod Frame
+pub mod Faults
+pub mod Film
+pub mod Packed
+pub mod Made

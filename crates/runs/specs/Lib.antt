@@ -1,0 +1,4 @@
+pub mod Rows
+pub mod Slots
+pub mod Changed
+pub mod Made

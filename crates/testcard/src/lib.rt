@@ -1,0 +1,4 @@
+// The test card.
+mod bar;
+mod bars;
+pub mod card;
