@@ -6,7 +6,7 @@ use native.Mathlib.Omega.{arith}
 use Rattle.std.specs.declared.option.Option.{Option}
 use Rattle.std.specs.declared.result.Result.the-variants.{Ok}
 use Rattle.std.proofs.shelf.Tests.{cond-false}
-use Rattle.commands.specs.declared.Format.{Format}
+use Rattle.forms.specs.declared.Format.{Format}
 use Rattle.commands.specs.Files.{ReadSeen, behind, commandAt, ended, formatAfter, isEnd, onward, run}
 
 -- a turn of the loop: behind a command that is not the last, the file is read on

@@ -11,13 +11,12 @@ use Rattle.std.specs.declared.result.Result.the-variants.{Ok, Err}
 use Rattle.ticks.specs.declared.Decimals.{Decimals}
 use Rattle.ticks.specs.declared.Decimals.the-variants.{Four, Five, Six}
 use Rattle.words.specs.Words.{Piece, Told, WordSeen, closing, nextWord, textTold}
-use Rattle.commands.specs.Orders.{Order, seenCommand}
-use Rattle.commands.specs.Orders as order
-use Rattle.commands.specs.Extended.{extendedOf}
-use Rattle.commands.specs.Plain.{plainOf}
+use Rattle.forms.specs.Forms.{formOf}
+use Rattle.forms.specs.Orders as order
+use Rattle.forms.specs.Orders.{Order, seenCommand}
+use Rattle.forms.specs.declared.Format.{Format}
 use Rattle.commands.specs.declared.CommandFault.{CommandFault}
 use Rattle.commands.specs.declared.CommandFault.the-variants.{Text, Form}
-use Rattle.commands.specs.declared.Format.{Format}
 use Rattle.commands.specs.declared.Read.{Read}
 
 -- A refusal of the text tells what the text layer tells; a command of none of the forms is refusal 20.
@@ -34,10 +33,6 @@ placesOf Six = 6
 abbrev pub longestOf : Option Format → ℕ
 longestOf None = 12
 longestOf (Some f) = f .whole + placesOf (f .decimals)
-
--- The command that a word is by its form, if it has one.
-unfoldable pub formOf : ℕ → WordSeen → Option Order
-formOf longest w = cond (w .extended) (extendedOf (w .content)) (plainOf longest (w .content))
 
 -- A command, the place of its first content byte, and the place behind it.
 pub record ReadSeen : Type 0 where

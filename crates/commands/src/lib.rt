@@ -1,175 +1,31 @@
+// The command layer: a file's bytes become commands, one after another.
+//
+// `next_command` reads the next word of a file and tells its form; the text of a whole command is
+// seen to first, then its form. The format in force, the last one that the file has set, says how
+// many digits a value may have. `count_commands` goes through a whole file, up to M02, by text and
+// form alone; whether a command may stand where it does is the next layer's to say.
+//
+// A refusal is a `CommandFault`, which carries a `TextFault` whole. specs/Files.antt says which
+// number, place and count each refusal tells (`commandTold`), and what is read from which file.
 ghost use Prim.Native.Nat.{_+_, _<_, _≤_, _^_};
-ghost use Rattle.commands.specs.Orders.{seenCommand, seenOption};
-ghost use Rattle.commands.specs.Files.{Goes, commandAt, countCommands, ended, formatAfter, formOf, isEnd, longestOf, nextCommand, placesOf, seenRead};
+ghost use Rattle.commands.specs.Files.{Goes, commandAt, countCommands, ended, formatAfter, isEnd, longestOf, nextCommand, placesOf, seenRead};
 ghost use Rattle.commands.specs.declared.CommandFault.the-variants.{Text};
+ghost use Rattle.forms.specs.Forms.{formOf};
+ghost use Rattle.forms.specs.Orders.{seenCommand, seenOption};
 ghost use Rattle.words.specs.Words.{seen};
 ghost use lib.ListN.{length};
 ghost use mathlib.Core.Path.{_≡_};
-
-mod extended;
-mod numbers;
-mod plain;
-
-use extended::extended_command;
-use plain::plain_command;
+use forms::Command;
+use forms::Format;
+use forms::form_of;
 use ticks::Decimals;
-use ticks::DecimalsDebug;
-use ticks::DecimalsPartialEq;
-use ticks::Unit;
-use words::Part;
 use words::TextFault;
-use words::TextFaultDebug;
-use words::TextFaultPartialEq;
 use words::Word;
 use words::close;
 use words::next_word;
 
-// An aperture code, 10 to 999.
-#[derive(Clone, Copy)]
-pub struct Code<'a> {
-    pub part: Part<'a>,
-    pub number: u32,
-}
-
-// A repeat count, 0 to 999.
-#[derive(Clone, Copy)]
-pub struct Count<'a> {
-    pub part: Part<'a>,
-    pub number: u32,
-}
-
-// A size in millionths of the unit.
-#[derive(Clone, Copy)]
-pub struct Size<'a> {
-    pub part: Part<'a>,
-    pub millionths: u64,
-}
-
-// A coordinate as it is written: a whole number, whose decimals the format tells.
-#[derive(Clone, Copy)]
-pub struct Coordinate<'a> {
-    pub part: Part<'a>,
-    pub value: i64,
-}
-
-// The digits of a coordinate before and after the point that is not written.
-#[derive(Clone, Copy, PartialEq, Eq, Debug)]
-pub struct Format {
-    pub whole: u8,
-    pub decimals: Decimals,
-}
-
-#[derive(Clone, Copy, PartialEq, Eq, Debug)]
-pub enum Polarity {
-    Dark,
-    Clear,
-}
-
-// How a draw goes from the current point.
-#[derive(Clone, Copy, PartialEq, Eq, Debug)]
-pub enum Mode {
-    Linear,
-    Clockwise,
-    Counterclockwise,
-}
-
-// What an attribute is about: TF, TA, TO; TD takes attributes back.
-#[derive(Clone, Copy, PartialEq, Eq, Debug)]
-pub enum AttributeKind {
-    File,
-    Aperture,
-    Object,
-    Delete,
-}
-
-// A command by its form, with the parts of the file that it was read from.
-#[derive(Clone, Copy)]
-pub enum Command<'a> {
-    // FSLAXnmYnm: `digits` is the first nm
-    Format {
-        digits: Part<'a>,
-        format: Format,
-    },
-    // MOMM, MOIN
-    Unit(Unit),
-    // ADDkC,s
-    Circle {
-        code: Code<'a>,
-        diameter: Size<'a>,
-    },
-    // ADDkR,sXs
-    Rectangle {
-        code: Code<'a>,
-        width: Size<'a>,
-        height: Size<'a>,
-    },
-    // ADDkO,sXs
-    Obround {
-        code: Code<'a>,
-        width: Size<'a>,
-        height: Size<'a>,
-    },
-    // ABDk and AB
-    BlockOpen {
-        code: Code<'a>,
-    },
-    BlockClose,
-    // SRXiYjIsJs and SR
-    RepeatOpen {
-        columns: Count<'a>,
-        rows: Count<'a>,
-        step_x: Size<'a>,
-        step_y: Size<'a>,
-    },
-    RepeatClose,
-    // LPD, LPC
-    Polarity(Polarity),
-    // LMN, LMX, LMY, LMXY
-    Mirror {
-        x: bool,
-        y: bool,
-    },
-    // TF, TA, TO, TD with any text
-    Attribute {
-        kind: AttributeKind,
-        text: Part<'a>,
-    },
-    // G04 with any text
-    Comment {
-        text: Part<'a>,
-    },
-    // G01, G02, G03
-    Mode(Mode),
-    // G75
-    MultiQuadrant,
-    // G36 and G37
-    RegionOpen,
-    RegionClose,
-    // M02
-    EndOfFile,
-    // Dk
-    Select {
-        code: Code<'a>,
-    },
-    // D01, D02 and D03
-    Draw {
-        x: Option<Coordinate<'a>>,
-        y: Option<Coordinate<'a>>,
-        i: Option<Coordinate<'a>>,
-        j: Option<Coordinate<'a>>,
-    },
-    Move {
-        x: Option<Coordinate<'a>>,
-        y: Option<Coordinate<'a>>,
-    },
-    Flash {
-        x: Option<Coordinate<'a>>,
-        y: Option<Coordinate<'a>>,
-    },
-}
-
 // Why the command layer refuses a file: the text is faulty, or a command has none of the forms.
-#[derive(Clone, Copy, PartialEq, Eq, Debug)]
+#[derive(Clone, Copy)]
 pub enum CommandFault {
     Text(TextFault),
     // `place` is the command's first content byte, `taken` the number of commands before it
@@ -213,16 +69,12 @@ fn longest_value(format: Option<Format>) -> usize
     }
 }
 
-// The command that a word is by its form.
+// The command that a word of a file is by its form.
 fn command_of<'a>(word: Word<'a>, longest: usize) -> Option<Command<'a>>
     requires { ⌜ word .content .at + length (now (word .content .text)) < 2 ^ 64 ⌝ }
     ensures { λ r. ⌜ seenOption r ≡ formOf longest (seen (word .entry)) ⌝ }
 {
-    if word.extended {
-        extended_command(word.content)
-    } else {
-        plain_command(word.content, longest)
-    }
+    form_of(word, longest)
 }
 
 // The next command from `at` on; `taken` commands came before it, and `format` is the one in force.

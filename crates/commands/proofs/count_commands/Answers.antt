@@ -4,7 +4,7 @@ use Prim.Native.Nat.{suc, _+_, _-_, _<_, _≤_}
 use native.Mathlib.Omega.{arith}
 use lib.ListN.{length}
 use borrow.Author.Needs.{needs}
-use Rattle.commands.specs.Orders.{seenCommand}
+use Rattle.forms.specs.Orders.{seenCommand}
 use Rattle.commands.specs.Files.{ReadSeen, isEnd, run}
 use Rattle.commands.proofs.Steps.{run-more}
 use Rattle.commands.proofs.count_commands.Needs as need
