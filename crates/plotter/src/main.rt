@@ -1,160 +1,135 @@
 // The film plotter's program.
 //
-// `plotter --commands=FILE` lists the commands of a Gerber file, one line each. Several tasks may
-// be given; they are carried out in order. A refused file, an unknown option or a file that cannot
-// be read is told on standard error, and the program ends with status 1.
+// `--commands=FILE` lists the commands of a Gerber file, one line each; several files may be given.
+// `--testcard=FILM --size=W,H [--pitch=P]` draws a test card and writes it as a PBM sheet.
+// A refused file, an unknown option or a file that cannot be read or written is told on standard
+// error, and the program ends with status 1.
+mod card;
+mod listing;
 mod position;
 mod wording;
 
-use commands::Command;
-use commands::CommandFault;
-use commands::CommandFaultDebug;
-use commands::Format;
-use commands::next_command;
-use position::Position;
-use position::advance;
+use card::expose_card;
+use listing::list_commands;
+use std::alloc::AllocError;
 use std::env;
-use std::fs;
 use std::io;
-use wording::Described;
-use wording::DescribedDisplay;
-use wording::explain;
-use words::close;
 
 // What ends the program early.
 #[derive(Debug, Drop)]
-enum Stop {
+pub(crate) enum Stop {
     // the reason has been told on standard error
     Told,
     // the output cannot be written
     Output(io::Error),
+    // there is not enough memory
+    Memory,
 }
 
-impl From<io::Error> for Stop as StopFromIo {
+pub(crate) impl From<AllocError> for Stop as StopFromAlloc {
+    fn from(_: AllocError) -> Stop {
+        Stop::Memory
+    }
+}
+
+pub(crate) impl From<io::Error> for Stop as StopFromIo {
     fn from(e: io::Error) -> Stop {
         Stop::Output(e)
     }
 }
 
-// What ends a listing early.
-#[derive(Debug, Drop)]
-enum Listing {
-    Refused(CommandFault),
-    Stopped(Stop),
+const USAGE: &str = "usage: plotter --commands=FILE\n       plotter --testcard=FILM --size=W,H [--pitch=P]";
+
+// A film's width and height, as `--size` has them.
+#[derive(Clone, Copy)]
+pub(crate) struct Size {
+    pub(crate) width: u32,
+    pub(crate) height: u32,
 }
 
-impl From<CommandFault> for Listing as ListingFromFault {
-    fn from(fault: CommandFault) -> Listing {
-        Listing::Refused(fault)
+// What the options ask for, besides what is carried out as they are read.
+#[derive(Drop)]
+struct Wanted {
+    card: Option<String>,
+    size: Option<Size>,
+    pitch: u32,
+}
+
+fn parse_number(text: &str) -> Option<u32> {
+    match text.parse::<u32>() {
+        Ok(n) => Some(n),
+        Err(_) => None,
     }
 }
 
-impl From<Stop> for Listing as ListingFromStop {
-    fn from(stop: Stop) -> Listing {
-        Listing::Stopped(stop)
-    }
+fn parse_size(text: &str) -> Option<Size> {
+    let (width, height) = text.split_once(',')?;
+    Some(Size { width: parse_number(width)?, height: parse_number(height)? })
 }
 
-const USAGE: &str = "usage: plotter --commands=FILE";
-
-// Tells on standard error why a file is refused, and where.
-fn tell_refusal(rt: &LibcRuntime, path: &str, file: &[u8], fault: CommandFault) -> Result<(), Stop> {
-    let r = explain(fault);
-    let at = advance(file, Position::first(file), r.place);
-    let (number, place, taken, reason) = (r.number, r.place, r.taken, r.reason);
-    let (line, column) = (at.line, at.column());
-    eprintln!(rt, "plotter: {path} refused with {number}: {reason}")?;
-    eprintln!(rt, "plotter: byte {place}, line {line}, column {column}, after {taken} commands")?;
-    Ok(())
-}
-
-// The format that holds after a command.
-fn format_after(command: Command<'_>, format: Option<Format>) -> Option<Format> {
-    match command {
-        Command::Format { format, .. } => Some(format),
-        _ => format,
-    }
-}
-
-fn is_end(command: Command<'_>) -> bool {
-    match command {
-        Command::EndOfFile => true,
-        _ => false,
-    }
-}
-
-fn print_command(rt: &LibcRuntime, at: Position, command: Command<'_>) -> Result<(), Stop> {
-    let (line, place) = (at.line, at.place);
-    let described = Described { command };
-    println!(rt, "line {line}, byte {place}: {described}")?;
-    Ok(())
-}
-
-// Prints the commands of a file up to M02, and answers how many there are.
-fn print_commands(rt: &LibcRuntime, file: &[u8]) -> Result<usize, Listing> {
-    let mut at = 0;
-    let mut taken = 0usize;
-    let mut format = None;
-    let mut ended = false;
-    let mut position = Position::first(file);
-    while !ended {
-        let read = next_command(file, at, taken, format)?;
-        position = advance(file, position, read.place);
-        print_command(rt, position, read.command)?;
-        format = format_after(read.command, format);
-        ended = is_end(read.command);
-        at = read.next;
-        taken = taken.saturating_add(1);
-    }
-    match close(file, at, taken) {
-        Ok(()) => Ok(taken),
-        Err(fault) => Err(Listing::Refused(CommandFault::Text(fault))),
-    }
-}
-
-fn list_commands(rt: &LibcRuntime, path: &str) -> Result<(), Stop> {
-    let bytes = match fs::read(rt, path) {
-        Ok(bytes) => bytes,
-        Err(e) => {
-            eprintln!(rt, "plotter: {path} cannot be read: {e}")?;
-            return Err(Stop::Told);
-        }
-    };
-    match print_commands(rt, bytes.as_slice()) {
-        Ok(count) => {
-            println!(rt, "{count} commands")?;
-            Ok(())
-        }
-        Err(Listing::Refused(fault)) => {
-            tell_refusal(rt, path, bytes.as_slice(), fault)?;
-            Err(Stop::Told)
-        }
-        Err(Listing::Stopped(stop)) => Err(stop),
-    }
-}
-
-fn carry_out(rt: &LibcRuntime, arg: &str) -> Result<(), Stop> {
-    if let Some(path) = arg.strip_prefix("--commands=") {
-        return list_commands(rt, path);
-    }
-    eprintln!(rt, "plotter: unknown option {arg}")?;
+fn complain(rt: &LibcRuntime, about: &str, arg: &str) -> Result<(), Stop> {
+    eprintln!(rt, "plotter: {about} {arg}")?;
     eprintln!(rt, "{USAGE}")?;
     Err(Stop::Told)
 }
 
+// Takes one option; a listing is carried out at once.
+fn take_option(rt: &LibcRuntime, wanted: &mut Wanted, arg: String) -> Result<(), Stop> {
+    if let Some(path) = arg.as_str().strip_prefix("--commands=") {
+        return list_commands(rt, path);
+    }
+    if let Some(text) = arg.as_str().strip_prefix("--size=") {
+        wanted.size = parse_size(text);
+        return if wanted.size.is_some() { Ok(()) } else { complain(rt, "--size wants W,H, not", text) };
+    }
+    if let Some(text) = arg.as_str().strip_prefix("--pitch=") {
+        return match parse_number(text) {
+            Some(pitch) => {
+                wanted.pitch = pitch;
+                Ok(())
+            }
+            None => complain(rt, "--pitch wants a number, not", text),
+        };
+    }
+    if arg.as_str().starts_with("--testcard=") {
+        wanted.card = Some(arg);
+        return Ok(());
+    }
+    complain(rt, "unknown option", arg.as_str())
+}
+
+// Carries out what the options ask for together.
+fn finish(rt: &LibcRuntime, wanted: &Wanted) -> Result<(), Stop> {
+    let Some(option) = wanted.card.as_ref() else {
+        return Ok(());
+    };
+    let path = match option.as_str().strip_prefix("--testcard=") {
+        Some(path) => path,
+        None => option.as_str(),
+    };
+    match wanted.size {
+        Some(size) => expose_card(rt, path, size, wanted.pitch),
+        None => complain(rt, "a test card wants a", "--size"),
+    }
+}
+
 fn run(rt: &LibcRuntime) -> Result<(), Stop> {
-    let mut tasks = 0usize;
+    let mut wanted = Wanted { card: None, size: None, pitch: 4 };
+    let mut options = 0usize;
     for arg in env::args(rt)?.skip(1) {
-        carry_out(rt, arg.as_str())?;
-        tasks = tasks.saturating_add(1);
+        take_option(rt, &mut wanted, arg)?;
+        options = options.saturating_add(1);
     }
-    if tasks == 0 {
-        eprintln!(rt, "{USAGE}")?;
-        return Err(Stop::Told);
+    if options == 0 {
+        return complain(rt, "nothing to do:", "no option given");
     }
-    Ok(())
+    finish(rt, &wanted)
 }
 
 fn main(rt: LibcRuntime) -> Result<(), Stop> {
-    run(&rt)
+    let done = run(&rt);
+    if let Err(Stop::Memory) = &done {
+        eprintln!(rt, "plotter: there is not enough memory")?;
+    }
+    done
 }

@@ -1,5 +1,5 @@
 use Prim.Native.Nat.{_+_, _-_, _≤_}
-use Rattle.plotter.proofs.print_commands.Given as given
+use Rattle.plotter.proofs.listing.print_commands.Given as given
 use Rattle.plotter.specs.Positions.{Stands}
 use lib.ListN.{length}
 
