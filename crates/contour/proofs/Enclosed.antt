@@ -22,7 +22,7 @@ use Rattle.shapes.specs.Box.{Inside, Encloses}
 use Rattle.contour.specs.declared.pieces.Piece.{Piece}
 use Rattle.contour.specs.Closed.{endsAt, closedFrom}
 use Rattle.contour.specs.Placed.{pieceAt, contourOf, boxOf}
-use Rattle.contour.specs.Chain.{differ, leftOf, counts, inContour, lastOf, lesserOf, greaterOf, grow, boxFrom, single}
+use Rattle.contour.specs.Chain.{differ, leftOf, counts, lastOf, lesserOf, greaterOf, grow, boxFrom, single}
 use Rattle.contour.proofs.Parity.{parity, odd-parity}
 
 -- the box holds the points that it grew by

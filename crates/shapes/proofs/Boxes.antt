@@ -1,6 +1,6 @@
 -- each covered point of a flash lies in its box
 use mathlib.Core.Path.{_≡_}
-use mathlib.Core.Bool.{Bool, true, false, _||_}
+use mathlib.Core.Bool.{true, false, _||_}
 use mathlib.Core.Logic.{⊎-elim}
 use Prim.Native.Nat.{ℕ, _+_, _-_, _*_, _≤_}
 use native.Mathlib.Omega.{arith}
@@ -9,7 +9,7 @@ use lib.IntN.{ℤ, pos, _+ℤ_, _-ℤ_, natAbs}
 use borrow.Author.Differences.{ints}
 use Rattle.std.proofs.shelf.Tests.{and-parts, or-cases, cases-bool, leb-true, leb-false}
 use Rattle.plane.specs.Plane.{At, spot, way}
-use Rattle.plane.proofs.Ring.{sq-le, norm-pos, sq-pos}
+use Rattle.plane.proofs.Ring.{sq-le, norm-pos}
 use Rattle.shapes.specs.Box.{Inside, Encloses, boxAbout}
 use Rattle.shapes.specs.Flashes.{near, inCircle, inRectangle, inLying, inObround, circleAt, rectangleAt, obroundAt}
 

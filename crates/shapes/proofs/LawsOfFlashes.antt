@@ -1,16 +1,15 @@
 -- laws of the flashes
 use mathlib.Core.Path.{_≡_, refl, sym, ap, _∙_}
 use mathlib.Core.Bool.{Bool, true, false, cond, _&&_, _||_}
-use mathlib.Core.Logic.{⊎-elim}
-use Prim.Native.Nat.{ℕ, _+_, _-_, _*_, _≤_, _<_}
+use Prim.Native.Nat.{ℕ, _+_, _-_, _*_, _≤_}
 use native.Mathlib.Omega.{arith}
 use native.Mathlib.Nat.{mul-le-mul}
 use lib.Dec.{leb, ltb}
 use lib.IntN.{ℤ, pos, _+ℤ_, _-ℤ_, natAbs}
 use lib.Signed.{leZ}
 use borrow.Author.Differences.{ints}
-use Rattle.std.proofs.shelf.Tests.{and-parts, cases-bool, leb-true, le-leb, lt-ltb}
-use Rattle.plane.specs.Plane.{At, spot, way, normOf}
+use Rattle.std.proofs.shelf.Tests.{and-parts, leb-true, le-leb, lt-ltb}
+use Rattle.plane.specs.Plane.{At, spot}
 use Rattle.plane.proofs.Ring.{norm-pos, way-moved}
 use Rattle.shapes.specs.Flashes.{near, inCircle, inRectangle, inLying, inObround}
 use Rattle.shapes.specs.Laws.{EvenObroundIsCircle, FlashesMove}

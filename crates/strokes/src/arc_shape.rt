@@ -3,7 +3,7 @@ ghost use mathlib.Core.Bool.{_&&_, _||_};
 ghost use Prim.Native.Nat.{_+_, _*_, _≤_, max};
 ghost use lib.IntN.{_*ℤ_, _-ℤ_, _+ℤ_, pos, natAbs};
 ghost use lib.Signed.{leZ, ltZ};
-ghost use Rattle.plane.specs.Plane.{way, normOf};
+ghost use Rattle.plane.specs.Plane.{way};
 ghost use Rattle.plane.specs.Points.{placeAt, pointAt, vectorAt};
 ghost use Rattle.shapes.specs.Box.{Encloses, boxAbout};
 ghost use Rattle.strokes.specs.Arcs.{inTurn, inSector, inSweep, excessOf, isClose, inRing, inRingOf, inArc, arcAt, root, reachOf, arcBox};
