@@ -21,6 +21,8 @@ made n x y = cond (leb (natAbs x) n && leb (natAbs y) n) (Some (spot x y)) None
 abbrev pub madeHalf : ℕ → Option ℕ
 madeHalf n = cond (leb n 5000) (Some n) None
 
+-- the numbers of a point, of whichever kind
+
 abbrev pub pointAt : Point → At
 pointAt p = spot (p .x) (p .y)
 
