@@ -228,6 +228,7 @@ ends-placed pl a s [] h = ap (placed pl) (same-is-equal .yes s a h)
 ends-placed pl a s (p ∷ ps) h = ends-placed pl a (filePointAt (p .end)) ps h
 
 pub contour-boxed : (s : FilePoint) (ps : List Piece) (pl : Placing) → closedFrom (filePointAt s) ps ≡ true → Encloses (contourOf s ps pl) (boxOf s ps pl)
+unfolding contourOf
 contour-boxed s ps pl h =
     let a : At = placed pl (filePointAt s) in
     let es : List At = map (pieceAt pl) ps in

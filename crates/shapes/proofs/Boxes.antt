@@ -55,10 +55,13 @@ obround-spans a b w e =
     (cases-bool (leb b a))
 
 pub circle-boxed : (q : At) (r : ℕ) → Encloses (circleAt q r) (boxAbout q r r)
+unfolding circleAt
 circle-boxed q r = record { inside = λ x y e. about-inside q r r x y (circle-spans r (way q (spot x y)) e) }
 
 pub rectangle-boxed : (q : At) (a b : ℕ) → Encloses (rectangleAt q a b) (boxAbout q a b)
+unfolding rectangleAt
 rectangle-boxed q a b = record { inside = λ x y e. about-inside q a b x y (rectangle-spans a b (way q (spot x y)) e) }
 
 pub obround-boxed : (q : At) (a b : ℕ) → Encloses (obroundAt q a b) (boxAbout q a b)
+unfolding obroundAt
 obround-boxed q a b = record { inside = λ x y e. about-inside q a b x y (obround-spans a b (way q (spot x y)) e) }

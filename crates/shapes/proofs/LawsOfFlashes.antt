@@ -11,7 +11,7 @@ use borrow.Author.Differences.{ints}
 use Rattle.std.proofs.shelf.Tests.{and-parts, leb-true, le-leb, lt-ltb}
 use Rattle.plane.specs.Plane.{At, spot}
 use Rattle.plane.proofs.Ring.{norm-pos, way-moved}
-use Rattle.shapes.specs.Flashes.{near, inCircle, inRectangle, inLying, inObround}
+use Rattle.shapes.specs.Flashes.{near, inCircle, inRectangle, inLying, inObround, circleAt, rectangleAt, obroundAt}
 use Rattle.shapes.specs.Laws.{EvenObroundIsCircle, FlashesMove}
 
 -- the upright line through the middle lies in the circle
@@ -44,6 +44,7 @@ even-obround r w z =
     ∙ (ap (λ (e : ℕ). inLying e r w) s ∙ (lying-round r w ∙ ap (λ (b : Bool). b && near r w) (sym p)))
 
 pub flashes-move : FlashesMove
+unfolding circleAt rectangleAt obroundAt
 flashes-move =
     record {
       circle = λ m q r x y. ap (inCircle r) (way-moved m q (spot x y));

@@ -132,6 +132,7 @@ band-beside r s e x y d h =
     (beside-way r (s .x) (e .x) x u a refl refl (g .0) (g .1), beside-way r (s .y) (e .y) y v b refl refl (k .0) (k .1))
 
 stroke-beside : (r : ℕ) (s e : At) (x y : ℤ) → strokeAt r s e x y ≡ true → Beside r (s .x) (e .x) x × Beside r (s .y) (e .y) y
+unfolding strokeAt
 stroke-beside r s e x y h =
     let p : At = spot x y in
     let band : Bool = not (same s e) && inBand r (way s e) (way s p) in

@@ -15,8 +15,8 @@ use Rattle.plane.specs.Plane.{At, spot, way, moved, normOf, eqZ, same}
 use Rattle.plane.proofs.Ring.{sq-pos, norm-pos, mulZ-add, mulZ-neg, way-moved}
 use Rattle.plane.proofs.Equal.{eqZ-refl, eqZ-equal, same-refl}
 use Rattle.shapes.specs.Flashes.{near, inCircle}
-use Rattle.strokes.specs.Strokes.{inBand, inStroke}
-use Rattle.strokes.specs.Arcs.{inSector, inSweep, inTurn, isClose, inRing, inRingOf, excessOf, inArc}
+use Rattle.strokes.specs.Strokes.{inBand, inStroke, strokeAt}
+use Rattle.strokes.specs.Arcs.{inSector, inSweep, inTurn, isClose, inRing, inRingOf, excessOf, inArc, arcAt}
 use Rattle.strokes.specs.Laws.{StrokeToItselfIsDisc, StrokeReversed, ArcReversed, RingByRadius, NothingAtHalf0, StrokesMove}
 use Rattle.strokes.proofs.Bands.{sq-neg, mul-swap}
 
@@ -178,6 +178,7 @@ arc-moved m c s e p r clockwise =
     ∙ (ap (λ (z : Bool). F (way s p) (way e p) z (inRingOf r cm sm pm)) (sweep-moved m c s e p clockwise) ∙ ap (F (way s p) (way e p) (inSweep clockwise c s e p)) (ring-moved m c s p r)))
 
 pub strokes-move : StrokesMove
+unfolding strokeAt arcAt
 strokes-move = record { stroke = λ m s e r x y. stroke-moved m s e (spot x y) r; arc = λ m c s e r clockwise x y. arc-moved m c s e (spot x y) r clockwise }
 
 pub nothing-at-half-0 : NothingAtHalf0

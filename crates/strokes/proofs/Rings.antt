@@ -141,6 +141,7 @@ arc-spans r clockwise c s e p h =
     (or-cases (inCircle r (way s p) || inCircle r (way e p)) ring (g .1))
 
 pub arc-boxed : (r : ℕ) (clockwise : Bool) (c s e : At) → Encloses (arcAt r clockwise c s e) (arcBox r c s e)
+unfolding arcAt
 arc-boxed r clockwise c s e =
     let n : ℕ = reachOf (way c s) (way c e) + r in
     record { inside = λ x y h. about-inside c n n x y (arc-spans r clockwise c s e (spot x y) h) }

@@ -118,6 +118,12 @@ fn in_arc(half: Half, clockwise: bool, c: Place, s: Place, e: Place, p: Point) -
             || in_sweep(clockwise, c, s, e, p) && in_ring_of(half, c, s, p))
 }
 
+fn arc_covers(half: Half, clockwise: bool, c: Place, s: Place, e: Place, p: Point) -> bool
+    ensures { λ r. ⌜ r ≡ arcAt (half .ticks) clockwise (placeAt c) (placeAt s) (placeAt e) (p .x) (p .y) ⌝ }
+{
+    in_arc(half, clockwise, c, s, e, p)
+}
+
 fn root_of(n: i64) -> u32
     requires { ⌜ natAbs n ≤ 8000000000000 ⌝ }
     ensures value { λ r. ⌜ r ≡ root (natAbs n) ⌝ }
@@ -204,7 +210,7 @@ pub impl Shape for ArcStroke as ArcShape {
 
     fn covers(&self, p: Point) -> bool {
         let c = self.centre;
-        in_arc(self.half, self.clockwise, c, self.start, self.end, p)
+        arc_covers(self.half, self.clockwise, c, self.start, self.end, p)
     }
 
     fn bounds(&self) -> Bounds {
