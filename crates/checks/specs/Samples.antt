@@ -8,5 +8,6 @@ abbrev pub allTrue : List Bool → Bool
 allTrue [] = true
 allTrue (b ∷ bs) = b && allTrue bs
 
+-- the lists of all layers
 abbrev pub samples : List Bool
 samples = shapeSamples

@@ -12,6 +12,7 @@ use Rattle.contour.specs.Chain.{contourAt}
 abbrev minus : ℕ → ℤ
 minus n = negℤ (pos n)
 
+-- a point with no number below 0
 abbrev point : ℕ → ℕ → At
 point x y = spot (pos x) (pos y)
 
@@ -31,6 +32,7 @@ bow clockwise = arcAt 10 clockwise (point 0 0) (point 50 0) (point 0 50)
 abbrev pub tile : ℤ → ℤ → Bool
 tile = contourAt (point 0 0) (point 10 0 ∷ point 10 10 ∷ point 0 10 ∷ point 0 0 ∷ [])
 
+-- each of these is to be true
 abbrev pub shapeSamples : List Bool
 shapeSamples =
     slanted (pos 11) (pos 23) ∷ not (slanted (pos 11) (pos 24)) ∷

@@ -22,7 +22,7 @@ use Rattle.shapes.specs.Box.{Inside, Encloses}
 use Rattle.contour.specs.declared.pieces.Piece.{Piece}
 use Rattle.contour.specs.Closed.{endsAt, closedFrom}
 use Rattle.contour.specs.Placed.{pieceAt, contourOf, boxOf}
-use Rattle.contour.specs.Chain.{differ, leftOf, counts, inContour, lastOf, lesserOf, greaterOf, grow, boxFrom, single}
+use Rattle.contour.specs.Chain.{differ, leftOf, counts, lastOf, lesserOf, greaterOf, grow, boxFrom, single}
 use Rattle.contour.proofs.Parity.{parity, odd-parity}
 
 -- the box holds the points that it grew by
@@ -228,6 +228,7 @@ ends-placed pl a s [] h = ap (placed pl) (same-is-equal .yes s a h)
 ends-placed pl a s (p ∷ ps) h = ends-placed pl a (filePointAt (p .end)) ps h
 
 pub contour-boxed : (s : FilePoint) (ps : List Piece) (pl : Placing) → closedFrom (filePointAt s) ps ≡ true → Encloses (contourOf s ps pl) (boxOf s ps pl)
+unfolding contourOf
 contour-boxed s ps pl h =
     let a : At = placed pl (filePointAt s) in
     let es : List At = map (pieceAt pl) ps in

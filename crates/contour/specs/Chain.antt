@@ -39,9 +39,11 @@ abbrev pub differ : Bool → Bool → Bool
 differ true b = not b
 differ false b = b
 
+-- the lesser of two numbers
 unfoldable pub lesserOf : ℤ → ℤ → ℤ
 lesserOf a b = cond (ltZ b a) b a
 
+-- the greater of two numbers
 unfoldable pub greaterOf : ℤ → ℤ → ℤ
 greaterOf a b = cond (ltZ b a) a b
 

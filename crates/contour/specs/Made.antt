@@ -17,6 +17,7 @@ pub record Parts : Type 0 where
   pub pieces : List Piece
   pub placing : Placing
 
+-- what an answer shows of the contour that it holds
 abbrev pub seenContour : Option Contour → Option Parts
 seenContour (Some c) = Some (record { start = c .start; pieces = now (c .pieces); placing = c .placing })
 seenContour None = None

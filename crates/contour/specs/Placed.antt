@@ -16,7 +16,7 @@ abbrev pub pieceAt : Placing → Piece → At
 pieceAt pl p = placed pl (filePointAt (p .end))
 
 -- the points that the placed contour covers
-abbrev pub contourOf : FilePoint → List Piece → Placing → ℤ → ℤ → Bool
+unfoldable pub contourOf : FilePoint → List Piece → Placing → ℤ → ℤ → Bool
 contourOf s ps pl = contourAt (placed pl (filePointAt s)) (map (pieceAt pl) ps)
 
 -- the box of its placed points

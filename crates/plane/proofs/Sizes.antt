@@ -1,10 +1,10 @@
--- absolute values of sums and products, and the number types that hold them
+-- absolute values of products, and the number types that hold them
 use mathlib.Core.Path.{_≡_, refl}
-use Prim.Native.Nat.{ℕ, zero, suc, _+_, _*_, _^_, _≤_, _<_}
+use Prim.Native.Nat.{ℕ, zero, suc, _*_, _^_, _≤_, _<_}
 use native.Mathlib.Omega.{arith}
 use native.Mathlib.Nat.{mul-le-mul}
 use lib.Dec.{lit<}
-use lib.IntN.{ℤ, pos, negsuc, _+ℤ_, _-ℤ_, _*ℤ_, negℤ, natAbs}
+use lib.IntN.{ℤ, pos, negsuc, _*ℤ_, negℤ, natAbs}
 use mir.Syntax.{Width, w64, w128}
 use mir.Val.{SFits, hbits}
 use borrow.Author.Differences.{ints}
@@ -27,12 +27,6 @@ pub record Upto (n : ℕ) (z : ℤ) : Type 0 where
 
 pub upto-mul : {m n : ℕ} {a b : ℤ} → Upto m a → Upto n b → Upto (m * n) (a *ℤ b)
 upto-mul {m} {n} {a} {b} p q = record { bound = rw (abs-mul a b) (mul-le-mul (p .bound) (q .bound)) }
-
-pub upto-add : {m n : ℕ} {a b : ℤ} → Upto m a → Upto n b → Upto (m + n) (a +ℤ b)
-upto-add {m} {n} {a} {b} p q = record { bound = omega (arith, ints) }
-
-pub upto-sub : {m n : ℕ} {a b : ℤ} → Upto m a → Upto n b → Upto (m + n) (a -ℤ b)
-upto-sub {m} {n} {a} {b} p q = record { bound = omega (arith, ints) }
 
 pub upto-fits : {w : Width} {n : ℕ} {z : ℤ} → Upto n z → n < 2 ^ hbits w → SFits w z
 upto-fits {w} {n} {z} p q = omega (arith, ints)

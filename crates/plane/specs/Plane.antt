@@ -8,6 +8,7 @@ pub record At : Type 0 where
   pub x : ℤ
   pub y : ℤ
 
+-- the point (x, y)
 abbrev pub spot : ℤ → ℤ → At
 spot x y = record { x = x; y = y }
 

@@ -1,5 +1,5 @@
 -- the kinds of points, and what making one of them answers
-use mathlib.Core.Bool.{Bool, cond, _&&_}
+use mathlib.Core.Bool.{cond, _&&_}
 use Prim.Native.Nat.{ℕ}
 use lib.Dec.{leb}
 use lib.IntN.{ℤ, natAbs}
@@ -20,6 +20,8 @@ made n x y = cond (leb (natAbs x) n && leb (natAbs y) n) (Some (spot x y)) None
 -- a half past 5,000 is refused
 abbrev pub madeHalf : ℕ → Option ℕ
 madeHalf n = cond (leb n 5000) (Some n) None
+
+-- the numbers of a point, of whichever kind
 
 abbrev pub pointAt : Point → At
 pointAt p = spot (p .x) (p .y)

@@ -1,6 +1,6 @@
 -- each covered point of a flash lies in its box
 use mathlib.Core.Path.{_≡_}
-use mathlib.Core.Bool.{Bool, true, false, _||_}
+use mathlib.Core.Bool.{true, false, _||_}
 use mathlib.Core.Logic.{⊎-elim}
 use Prim.Native.Nat.{ℕ, _+_, _-_, _*_, _≤_}
 use native.Mathlib.Omega.{arith}
@@ -9,7 +9,7 @@ use lib.IntN.{ℤ, pos, _+ℤ_, _-ℤ_, natAbs}
 use borrow.Author.Differences.{ints}
 use Rattle.std.proofs.shelf.Tests.{and-parts, or-cases, cases-bool, leb-true, leb-false}
 use Rattle.plane.specs.Plane.{At, spot, way}
-use Rattle.plane.proofs.Ring.{sq-le, norm-pos, sq-pos}
+use Rattle.plane.proofs.Ring.{sq-le, norm-pos}
 use Rattle.shapes.specs.Box.{Inside, Encloses, boxAbout}
 use Rattle.shapes.specs.Flashes.{near, inCircle, inRectangle, inLying, inObround, circleAt, rectangleAt, obroundAt}
 
@@ -55,10 +55,13 @@ obround-spans a b w e =
     (cases-bool (leb b a))
 
 pub circle-boxed : (q : At) (r : ℕ) → Encloses (circleAt q r) (boxAbout q r r)
+unfolding circleAt
 circle-boxed q r = record { inside = λ x y e. about-inside q r r x y (circle-spans r (way q (spot x y)) e) }
 
 pub rectangle-boxed : (q : At) (a b : ℕ) → Encloses (rectangleAt q a b) (boxAbout q a b)
+unfolding rectangleAt
 rectangle-boxed q a b = record { inside = λ x y e. about-inside q a b x y (rectangle-spans a b (way q (spot x y)) e) }
 
 pub obround-boxed : (q : At) (a b : ℕ) → Encloses (obroundAt q a b) (boxAbout q a b)
+unfolding obroundAt
 obround-boxed q a b = record { inside = λ x y e. about-inside q a b x y (obround-spans a b (way q (spot x y)) e) }

@@ -1,18 +1,17 @@
 -- laws of the flashes
 use mathlib.Core.Path.{_≡_, refl, sym, ap, _∙_}
 use mathlib.Core.Bool.{Bool, true, false, cond, _&&_, _||_}
-use mathlib.Core.Logic.{⊎-elim}
-use Prim.Native.Nat.{ℕ, _+_, _-_, _*_, _≤_, _<_}
+use Prim.Native.Nat.{ℕ, _+_, _-_, _*_, _≤_}
 use native.Mathlib.Omega.{arith}
 use native.Mathlib.Nat.{mul-le-mul}
 use lib.Dec.{leb, ltb}
 use lib.IntN.{ℤ, pos, _+ℤ_, _-ℤ_, natAbs}
 use lib.Signed.{leZ}
 use borrow.Author.Differences.{ints}
-use Rattle.std.proofs.shelf.Tests.{and-parts, cases-bool, leb-true, le-leb, lt-ltb}
-use Rattle.plane.specs.Plane.{At, spot, way, normOf}
+use Rattle.std.proofs.shelf.Tests.{and-parts, leb-true, le-leb, lt-ltb}
+use Rattle.plane.specs.Plane.{At, spot}
 use Rattle.plane.proofs.Ring.{norm-pos, way-moved}
-use Rattle.shapes.specs.Flashes.{near, inCircle, inRectangle, inLying, inObround}
+use Rattle.shapes.specs.Flashes.{near, inCircle, inRectangle, inLying, inObround, circleAt, rectangleAt, obroundAt}
 use Rattle.shapes.specs.Laws.{EvenObroundIsCircle, FlashesMove}
 
 -- the upright line through the middle lies in the circle
@@ -45,6 +44,7 @@ even-obround r w z =
     ∙ (ap (λ (e : ℕ). inLying e r w) s ∙ (lying-round r w ∙ ap (λ (b : Bool). b && near r w) (sym p)))
 
 pub flashes-move : FlashesMove
+unfolding circleAt rectangleAt obroundAt
 flashes-move =
     record {
       circle = λ m q r x y. ap (inCircle r) (way-moved m q (spot x y));

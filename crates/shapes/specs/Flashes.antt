@@ -28,11 +28,11 @@ inObround a b w = cond (leb b a) (inLying (a - b) b w) (inLying (b - a) a (spot 
 
 -- the points that a shape at q covers
 
-abbrev pub circleAt : At → ℕ → ℤ → ℤ → Bool
+unfoldable pub circleAt : At → ℕ → ℤ → ℤ → Bool
 circleAt q r x y = inCircle r (way q (spot x y))
 
-abbrev pub rectangleAt : At → ℕ → ℕ → ℤ → ℤ → Bool
+unfoldable pub rectangleAt : At → ℕ → ℕ → ℤ → ℤ → Bool
 rectangleAt q a b x y = inRectangle a b (way q (spot x y))
 
-abbrev pub obroundAt : At → ℕ → ℕ → ℤ → ℤ → Bool
+unfoldable pub obroundAt : At → ℕ → ℕ → ℤ → ℤ → Bool
 obroundAt q a b x y = inObround a b (way q (spot x y))

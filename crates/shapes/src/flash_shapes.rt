@@ -89,6 +89,24 @@ fn in_obround(a: Half, b: Half, w: Vector) -> bool
     }
 }
 
+fn circle_covers(q: Place, half: Half, p: Point) -> bool
+    ensures { λ r. ⌜ r ≡ circleAt (placeAt q) (half .ticks) (p .x) (p .y) ⌝ }
+{
+    in_circle(half, way_to_point(q, p))
+}
+
+fn rectangle_covers(q: Place, a: Half, b: Half, p: Point) -> bool
+    ensures { λ r. ⌜ r ≡ rectangleAt (placeAt q) (a .ticks) (b .ticks) (p .x) (p .y) ⌝ }
+{
+    in_rectangle(a.ticks, b.ticks, way_to_point(q, p))
+}
+
+fn obround_covers(q: Place, a: Half, b: Half, p: Point) -> bool
+    ensures { λ r. ⌜ r ≡ obroundAt (placeAt q) (a .ticks) (b .ticks) (p .x) (p .y) ⌝ }
+{
+    in_obround(a, b, way_to_point(q, p))
+}
+
 fn lower(z: i32, by: Half) -> i32
     requires { ⌜ natAbs z ≤ 345000 ⌝ }
     ensures { λ r. ⌜ r ≡ z -ℤ pos (by .ticks) ⌝ }
@@ -141,7 +159,7 @@ pub impl Shape for Circle as CircleShape {
     ghost boxed = { λ s. boxAbout (placeAt (s .place)) (s .half .ticks) (s .half .ticks) };
 
     fn covers(&self, p: Point) -> bool {
-        in_circle(self.half, way_to_point(self.place, p))
+        circle_covers(self.place, self.half, p)
     }
 
     fn bounds(&self) -> Bounds {
@@ -155,7 +173,7 @@ pub impl Shape for Rectangle as RectangleShape {
     ghost boxed = { λ s. boxAbout (placeAt (s .place)) (s .a .ticks) (s .b .ticks) };
 
     fn covers(&self, p: Point) -> bool {
-        in_rectangle(self.a.ticks, self.b.ticks, way_to_point(self.place, p))
+        rectangle_covers(self.place, self.a, self.b, p)
     }
 
     fn bounds(&self) -> Bounds {
@@ -169,7 +187,7 @@ pub impl Shape for Obround as ObroundShape {
     ghost boxed = { λ s. boxAbout (placeAt (s .place)) (s .a .ticks) (s .b .ticks) };
 
     fn covers(&self, p: Point) -> bool {
-        in_obround(self.a, self.b, way_to_point(self.place, p))
+        obround_covers(self.place, self.a, self.b, p)
     }
 
     fn bounds(&self) -> Bounds {

@@ -2,24 +2,24 @@
 use mathlib.Core.Path.{_≡_, refl, sym, ap, _∙_}
 use mathlib.Core.Bool.{Bool, true, false, _&&_, _||_, not}
 use mathlib.Core.Logic.{⊎-elim}
-use Prim.Native.Nat.{ℕ, zero, suc, _+_, _*_, _≤_, _<_}
+use Prim.Native.Nat.{ℕ, _+_, _*_, _≤_, _<_}
 use native.Mathlib.Omega.{arith}
 use native.Mathlib.Nat.{mul-le-mul, mul-le-mul-right, le-of-mul-le-mul-left, mul-add, mul-comm, mul-assoc, mul-left-comm}
-use lib.Dec.{eqb, ltb}
+use lib.Dec.{ltb}
 use lib.IntN.{ℤ, pos, negsuc, _+ℤ_, _-ℤ_, _*ℤ_, negℤ, natAbs, *ℤ-comm, +ℤ-comm}
 use lib.Signed.{leZ, _≤ℤ_}
 use borrow.Author.Differences.{ints, up, down, product-is}
 use Rattle.std.specs.Numbers.{minZ, maxZ}
-use Rattle.std.proofs.shelf.Tests.{and-parts, or-cases, and-from, cases-eq, not-true, eq-eqb, both-ways}
+use Rattle.std.proofs.shelf.Tests.{and-parts, or-cases, and-from, cases-eq, not-true, both-ways}
 use Rattle.std.proofs.shelf.Signed.{clamps}
-use Rattle.plane.specs.Plane.{At, spot, way, crossOf, dotOf, normOf, eqZ, same}
+use Rattle.plane.specs.Plane.{At, spot, way, eqZ, same}
 use Rattle.plane.proofs.Sizes.{abs-neg, abs-mul}
 use Rattle.plane.proofs.Equal.{eqZ-refl}
-use Rattle.plane.proofs.Ring.{sq-le, sq-pos, norm-pos, mulZ-add, mulZ-neg, mulZ-assoc, addZ-mul}
-use Rattle.shapes.specs.Box.{Inside, Encloses}
+use Rattle.plane.proofs.Ring.{sq-le, sq-pos, norm-pos, mulZ-neg, mulZ-assoc, addZ-mul}
+use Rattle.shapes.specs.Box.{Encloses}
 use Rattle.shapes.specs.Flashes.{inCircle}
 use Rattle.shapes.proofs.Boxes.{circle-spans}
-use Rattle.strokes.specs.Strokes.{inBand, inStroke, strokeAt, strokeBox}
+use Rattle.strokes.specs.Strokes.{inBand, strokeAt, strokeBox}
 
 -- (u² + v²) x = (u x + v y) u - (u y - v x) v
 sorted : (a b c l p q : ℤ) → l ≡ a +ℤ b → p ≡ a +ℤ c → q ≡ c -ℤ b → l ≡ p -ℤ q
@@ -132,6 +132,7 @@ band-beside r s e x y d h =
     (beside-way r (s .x) (e .x) x u a refl refl (g .0) (g .1), beside-way r (s .y) (e .y) y v b refl refl (k .0) (k .1))
 
 stroke-beside : (r : ℕ) (s e : At) (x y : ℤ) → strokeAt r s e x y ≡ true → Beside r (s .x) (e .x) x × Beside r (s .y) (e .y) y
+unfolding strokeAt
 stroke-beside r s e x y h =
     let p : At = spot x y in
     let band : Bool = not (same s e) && inBand r (way s e) (way s p) in

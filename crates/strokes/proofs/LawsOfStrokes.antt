@@ -1,23 +1,24 @@
 -- laws of the strokes
 use mathlib.Core.Path.{_≡_, refl, sym, ap, _∙_}
-use mathlib.Core.Bool.{Bool, true, false, cond, _&&_, _||_, not}
-use mathlib.Core.Logic.{⊎-elim, inl, inr}
-use Prim.Native.Nat.{ℕ, _*_}
+use mathlib.Core.Bool.{Bool, true, false, _&&_, _||_, not}
+use mathlib.Core.Logic.{inl, inr}
+use Prim.Native.Nat.{ℕ, _+_, _-_, _*_, _≤_}
 use native.Mathlib.Omega.{arith}
-use lib.Dec.{eqb, ltb}
-use lib.IntN.{ℤ, pos, negsuc, _+ℤ_, _-ℤ_, _*ℤ_, negℤ, *ℤ-comm}
+use native.Mathlib.Nat.{mul-le-mul, mul-add, add-mul, mul-comm, mul-assoc}
+use lib.Dec.{eqb, leb, ltb}
+use lib.IntN.{ℤ, pos, negsuc, _+ℤ_, _-ℤ_, _*ℤ_, negℤ, natAbs, *ℤ-comm}
 use lib.Signed.{leZ}
 use borrow.Author.Differences.{ints}
-use Rattle.std.proofs.shelf.Tests.{cases-bool, both-ways}
+use Rattle.std.proofs.shelf.Tests.{cases-bool, cases-lt, both-ways, le-leb, lt-leb}
 use Rattle.std.proofs.shelf.Ways.{tells}
 use Rattle.plane.specs.Plane.{At, spot, way, moved, normOf, eqZ, same}
-use Rattle.plane.proofs.Ring.{mulZ-add, mulZ-neg, way-moved}
+use Rattle.plane.proofs.Ring.{sq-pos, norm-pos, mulZ-add, mulZ-neg, way-moved}
 use Rattle.plane.proofs.Equal.{eqZ-refl, eqZ-equal, same-refl}
 use Rattle.shapes.specs.Flashes.{near, inCircle}
-use Rattle.strokes.specs.Strokes.{inBand, inStroke}
-use Rattle.strokes.specs.Arcs.{inSector, inSweep, inTurn, inRing, inRingOf, excessOf, inArc}
-use Rattle.strokes.specs.Laws.{StrokeToItselfIsDisc, StrokeReversed, ArcReversed, StrokesMove}
-use Rattle.strokes.proofs.Bands.{sq-neg}
+use Rattle.strokes.specs.Strokes.{inBand, inStroke, strokeAt}
+use Rattle.strokes.specs.Arcs.{inSector, inSweep, inTurn, isClose, inRing, inRingOf, excessOf, inArc, arcAt}
+use Rattle.strokes.specs.Laws.{StrokeToItselfIsDisc, StrokeReversed, ArcReversed, RingByRadius, NothingAtHalf0, StrokesMove}
+use Rattle.strokes.proofs.Bands.{sq-neg, mul-swap}
 
 eqb-swap : (a b : ℕ) → eqb a b ≡ eqb b a
 eqb-swap a b = grind (arith, tells)
@@ -177,4 +178,68 @@ arc-moved m c s e p r clockwise =
     ∙ (ap (λ (z : Bool). F (way s p) (way e p) z (inRingOf r cm sm pm)) (sweep-moved m c s e p clockwise) ∙ ap (F (way s p) (way e p) (inSweep clockwise c s e p)) (ring-moved m c s p r)))
 
 pub strokes-move : StrokesMove
+unfolding strokeAt arcAt
 strokes-move = record { stroke = λ m s e r x y. stroke-moved m s e (spot x y) r; arc = λ m c s e r clockwise x y. arc-moved m c s e (spot x y) r clockwise }
+
+pub nothing-at-half-0 : NothingAtHalf0
+nothing-at-half-0 = record { stroke = λ s e p. refl; arc = λ clockwise c s e p. refl }
+
+-- the ring, by squares
+
+square-leb : (x y : ℕ) → leb (x * x) (y * y) ≡ leb x y
+square-leb x y =
+    elim (cases-lt y x) [
+      | inl h ↦ let k : (y + 1) * (y + 1) ≤ x * x = mul-le-mul (omega arith) (omega arith) in lt-leb (x * x) (y * y) (omega (arith, simp (mul-add, add-mul) at k)) ∙ sym (lt-leb x y h)
+      | inr h ↦ le-leb (x * x) (y * y) (mul-le-mul h h) ∙ sym (le-leb x y h)
+    ]
+
+outer-edge : (k : ℤ) (m a s d : ℕ) → k ≡ (pos m -ℤ pos a) -ℤ pos s → (leZ k (pos 0) || leb (natAbs k) (2 * d)) ≡ leb m (a + s + 2 * d)
+outer-edge k m a s d h = grind (arith, ints, tells)
+
+inner-edge : (k : ℤ) (m a s d e : ℕ) → k ≡ (pos m -ℤ pos a) -ℤ pos s → e + 2 * d ≡ a + s → (leZ (pos 0) k || leb (natAbs k) (2 * d)) ≡ leb e m
+inner-edge k m a s d e h q = grind (arith, ints, tells)
+
+sum-square : (n r : ℕ) → n * n + r * r + 2 * (r * n) ≡ (n + r) * (n + r)
+sum-square n r = simp (mul-add, add-mul) (omega (arith, mul-comm n r))
+
+difference-square : (n r : ℕ) → r ≤ n → (n - r) * (n - r) + 2 * (r * n) ≡ n * n + r * r
+difference-square n r h =
+    let d : ℕ = n - r in
+    let e : n ≡ d + r = omega arith in
+    let f : d * d + 2 * (r * (d + r)) ≡ (d + r) * (d + r) + r * r = simp (mul-add, add-mul) (omega (arith, mul-comm d r)) in
+    ap (λ (z : ℕ). d * d + 2 * (r * z)) e ∙ (f ∙ ap (λ (z : ℕ). z * z + r * r) (sym e))
+
+close-by-radius : (r n : ℕ) (k : ℤ) → isClose r (pos (n * n)) k ≡ leb (natAbs k) (2 * (r * n))
+close-by-radius r n k =
+    let t : (2 * (r * n)) * (2 * (r * n)) ≡ (4 * (r * r)) * (n * n) = mul-swap 2 (r * n) ∙ (ap (λ (z : ℕ). 4 * z) (mul-swap r n) ∙ sym (mul-assoc 4 (r * r) (n * n))) in
+    ap (λ (z : ℤ). leZ z (pos ((4 * (r * r)) * (n * n)))) (sq-pos k) ∙ (ap (leb (natAbs k * natAbs k)) (sym t) ∙ square-leb (natAbs k) (2 * (r * n)))
+
+inner-by-radius : (r n m : ℕ) (k : ℤ) → k ≡ (pos m -ℤ pos (n * n)) -ℤ pos (r * r) → (leb n r || leZ (pos 0) k || leb (natAbs k) (2 * (r * n))) ≡ (leb n r || leb ((n - r) * (n - r)) m)
+inner-by-radius r n m k h =
+    let c : Bool = leb (natAbs k) (2 * (r * n)) in
+    elim (cases-lt r n) [
+      | inl l ↦
+          let b : leb n r ≡ false = lt-leb n r l in
+          ap (λ (z : Bool). z || leZ (pos 0) k || c) b
+          ∙ (inner-edge k m (n * n) (r * r) (r * n) ((n - r) * (n - r)) h (difference-square n r (omega arith)) ∙ ap (λ (z : Bool). z || leb ((n - r) * (n - r)) m) (sym b))
+      | inr l ↦
+          let b : leb n r ≡ true = le-leb n r l in
+          ap (λ (z : Bool). z || leZ (pos 0) k || c) b ∙ ap (λ (z : Bool). z || leb ((n - r) * (n - r)) m) (sym b)
+    ]
+
+ring-at : (r n m : ℕ) → inRing r (pos (n * n)) ((pos m -ℤ pos (n * n)) -ℤ pos (r * r)) ≡ (leb m ((n + r) * (n + r)) && (leb n r || leb ((n - r) * (n - r)) m))
+unfolding inRing
+ring-at r n m =
+    let k : ℤ = (pos m -ℤ pos (n * n)) -ℤ pos (r * r) in
+    let c : Bool = leb (natAbs k) (2 * (r * n)) in
+    ap (λ (z : Bool). (leZ k (pos 0) || z) && (leb (n * n) (r * r) || leZ (pos 0) k || z)) (close-by-radius r n k)
+    ∙ (ap (λ (z : Bool). (leZ k (pos 0) || c) && (z || leZ (pos 0) k || c)) (square-leb n r)
+    ∙ (ap (λ (z : Bool). z && (leb n r || leZ (pos 0) k || c)) (outer-edge k m (n * n) (r * r) (r * n) refl ∙ ap (leb m) (sum-square n r))
+    ∙ ap (λ (z : Bool). leb m ((n + r) * (n + r)) && z) (inner-by-radius r n m k refl)))
+
+pub ring-by-radius : RingByRadius
+ring-by-radius r n t =
+    let m : ℕ = natAbs (t .x) * natAbs (t .x) + natAbs (t .y) * natAbs (t .y) in
+    let e : normOf t ≡ pos m = norm-pos t in
+    ap (λ (z : ℤ). inRing r (pos (n * n)) ((z -ℤ pos (n * n)) -ℤ pos (r * r))) e
+    ∙ (ring-at r n m ∙ ap (λ (z : ℤ). leZ z (pos ((n + r) * (n + r))) && (leb n r || leZ (pos ((n - r) * (n - r))) z)) (sym e))

@@ -1,8 +1,8 @@
 -- each covered point of an arc stroke lies in its box
-use mathlib.Core.Path.{_≡_, refl, sym, ap, _∙_}
-use mathlib.Core.Bool.{Bool, true, false, cond, _&&_, _||_}
+use mathlib.Core.Path.{_≡_, sym, ap, _∙_}
+use mathlib.Core.Bool.{Bool, true, _&&_, _||_}
 use mathlib.Core.Logic.{⊎-elim, inl, inr}
-use Prim.Native.Nat.{ℕ, zero, suc, _+_, _-_, _*_, _≤_, _<_, max}
+use Prim.Native.Nat.{ℕ, zero, suc, _+_, _-_, _*_, _≤_, _<_}
 use native.Mathlib.Omega.{arith}
 use native.Mathlib.Nat.{mul-le-mul, mul-le-mul-left, mul-add, add-mul, mul-comm, mul-assoc}
 use lib.Dec.{leb, ltb}
@@ -141,6 +141,7 @@ arc-spans r clockwise c s e p h =
     (or-cases (inCircle r (way s p) || inCircle r (way e p)) ring (g .1))
 
 pub arc-boxed : (r : ℕ) (clockwise : Bool) (c s e : At) → Encloses (arcAt r clockwise c s e) (arcBox r c s e)
+unfolding arcAt
 arc-boxed r clockwise c s e =
     let n : ℕ = reachOf (way c s) (way c e) + r in
     record { inside = λ x y h. about-inside c n n x y (arc-spans r clockwise c s e (spot x y) h) }

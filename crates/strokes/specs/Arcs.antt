@@ -42,7 +42,7 @@ abbrev pub inArc : ℕ → Bool → At → At → At → At → Bool
 inArc r clockwise c s e p = ltb 0 r && (inCircle r (way s p) || inCircle r (way e p) || (inSweep clockwise c s e p && inRingOf r c s p))
 
 -- the points that the arc stroke covers
-abbrev pub arcAt : ℕ → Bool → At → At → At → ℤ → ℤ → Bool
+unfoldable pub arcAt : ℕ → Bool → At → At → At → ℤ → ℤ → Bool
 arcAt r clockwise c s e x y = inArc r clockwise c s e (spot x y)
 
 -- the greatest whole number whose square is at most n

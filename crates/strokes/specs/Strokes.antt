@@ -18,7 +18,7 @@ abbrev pub inStroke : ℕ → At → At → At → Bool
 inStroke r s e p = ltb 0 r && (inCircle r (way s p) || inCircle r (way e p) || (not (same s e) && inBand r (way s e) (way s p)))
 
 -- the points that the stroke covers
-abbrev pub strokeAt : ℕ → At → At → ℤ → ℤ → Bool
+unfoldable pub strokeAt : ℕ → At → At → ℤ → ℤ → Bool
 strokeAt r s e x y = inStroke r s e (spot x y)
 
 -- the least box about the circles at s and e

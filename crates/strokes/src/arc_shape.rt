@@ -3,7 +3,7 @@ ghost use mathlib.Core.Bool.{_&&_, _||_};
 ghost use Prim.Native.Nat.{_+_, _*_, _≤_, max};
 ghost use lib.IntN.{_*ℤ_, _-ℤ_, _+ℤ_, pos, natAbs};
 ghost use lib.Signed.{leZ, ltZ};
-ghost use Rattle.plane.specs.Plane.{way, normOf};
+ghost use Rattle.plane.specs.Plane.{way};
 ghost use Rattle.plane.specs.Points.{placeAt, pointAt, vectorAt};
 ghost use Rattle.shapes.specs.Box.{Encloses, boxAbout};
 ghost use Rattle.strokes.specs.Arcs.{inTurn, inSector, inSweep, excessOf, isClose, inRing, inRingOf, inArc, arcAt, root, reachOf, arcBox};
@@ -118,6 +118,12 @@ fn in_arc(half: Half, clockwise: bool, c: Place, s: Place, e: Place, p: Point) -
             || in_sweep(clockwise, c, s, e, p) && in_ring_of(half, c, s, p))
 }
 
+fn arc_covers(half: Half, clockwise: bool, c: Place, s: Place, e: Place, p: Point) -> bool
+    ensures { λ r. ⌜ r ≡ arcAt (half .ticks) clockwise (placeAt c) (placeAt s) (placeAt e) (p .x) (p .y) ⌝ }
+{
+    in_arc(half, clockwise, c, s, e, p)
+}
+
 fn root_of(n: i64) -> u32
     requires { ⌜ natAbs n ≤ 8000000000000 ⌝ }
     ensures value { λ r. ⌜ r ≡ root (natAbs n) ⌝ }
@@ -204,7 +210,7 @@ pub impl Shape for ArcStroke as ArcShape {
 
     fn covers(&self, p: Point) -> bool {
         let c = self.centre;
-        in_arc(self.half, self.clockwise, c, self.start, self.end, p)
+        arc_covers(self.half, self.clockwise, c, self.start, self.end, p)
     }
 
     fn bounds(&self) -> Bounds {

@@ -1,5 +1,5 @@
 ghost use mathlib.Core.Path.{_≡_};
-ghost use Rattle.strokes.specs.Laws.{StrokeToItselfIsDisc, StrokeReversed, ArcReversed, StrokesMove};
+ghost use Rattle.strokes.specs.Laws.{StrokeToItselfIsDisc, StrokeReversed, ArcReversed, RingByRadius, NothingAtHalf0, StrokesMove};
 
 /// A stroke that goes nowhere is a disc.
 pub fn stroke_to_itself_is_disc() -> u8
@@ -29,6 +29,22 @@ pub fn arc_reversed() -> u8
 pub fn strokes_move() -> u8
     ensures value { λ r. ⌜ r ≡ 0 ⌝ }
     ensures law { λ _. ⌜ StrokesMove ⌝ }
+{
+    0
+}
+
+/// A ring of a whole radius holds what lies from the radius less the half to the radius plus the half.
+pub fn ring_by_radius() -> u8
+    ensures value { λ r. ⌜ r ≡ 0 ⌝ }
+    ensures law { λ _. ⌜ RingByRadius ⌝ }
+{
+    0
+}
+
+/// A stroke of half 0 covers nothing.
+pub fn nothing_at_half_0() -> u8
+    ensures value { λ r. ⌜ r ≡ 0 ⌝ }
+    ensures law { λ _. ⌜ NothingAtHalf0 ⌝ }
 {
     0
 }

@@ -47,6 +47,12 @@ fn in_stroke(half: Half, s: Place, e: Place, p: Point) -> bool
             || !is_same(s, e) && in_band(half, way_to_place(s, e), w))
 }
 
+fn stroke_covers(half: Half, s: Place, e: Place, p: Point) -> bool
+    ensures { λ r. ⌜ r ≡ strokeAt (half .ticks) (placeAt s) (placeAt e) (p .x) (p .y) ⌝ }
+{
+    in_stroke(half, s, e, p)
+}
+
 fn lowest(s: i32, e: i32, by: Half) -> i32
     requires { ⌜ (natAbs s ≤ 345000) × (natAbs e ≤ 345000) ⌝ }
     ensures { λ r. ⌜ r ≡ minZ s e -ℤ pos (by .ticks) ⌝ }
@@ -85,7 +91,7 @@ pub impl Shape for Stroke as StrokeShape {
     ghost boxed = { λ s. strokeBox (s .half .ticks) (placeAt (s .start)) (placeAt (s .end)) };
 
     fn covers(&self, p: Point) -> bool {
-        in_stroke(self.half, self.start, self.end, p)
+        stroke_covers(self.half, self.start, self.end, p)
     }
 
     fn bounds(&self) -> Bounds {

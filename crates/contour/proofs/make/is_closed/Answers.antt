@@ -1,4 +1,4 @@
-use mathlib.Core.Path.{_≡_, sym, ap, _∙_}
+use mathlib.Core.Path.{sym, ap, _∙_}
 use mathlib.Core.List.{List}
 use Rattle.std.proofs.shelf.Lists.{drop-all}
 use Rattle.plane.specs.Points.{filePointAt}
