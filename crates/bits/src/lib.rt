@@ -6,7 +6,7 @@
 ghost use mathlib.Core.Path.{_≡_};
 ghost use mathlib.Core.Bool.{cond};
 ghost use Prim.Native.Nat.{ℕ, _+_, _*_, _/_, _≤_, _<_};
-ghost use lib.ListN.{length, take, drop};
+ghost use lib.ListN.{length, getD, take, drop};
 ghost use Rattle.bits.specs.Bits.{bitIn, bitOf, among};
 
 // A bit of a byte.
@@ -48,6 +48,7 @@ pub fn fill_bits(bytes: &mut [u8], from: usize, to: usize, dark: bool)
     ensures filled { λ _. ⌜ ((n : ℕ) → n / 8 < length (now (bytes .entry)) → bitOf (now (bytes .exit)) n ≡ cond (among from to n) dark (bitOf (now (bytes .entry)) n)) ⌝ }
     ensures before { λ _. ⌜ ((k : ℕ) → 8 * k ≤ from → take k (now (bytes .exit)) ≡ take k (now (bytes .entry))) ⌝ }
     ensures after { λ _. ⌜ ((k : ℕ) → to ≤ 8 * k → drop k (now (bytes .exit)) ≡ drop k (now (bytes .entry))) ⌝ }
+    ensures fit { λ _. ⌜ ((k : ℕ) → getD (now (bytes .entry)) k 0 < 256 → getD (now (bytes .exit)) k 0 < 256) ⌝ }
 {
     if from >= to {
         return;
