@@ -5,7 +5,7 @@
 // Proofs about whole rows are here too: bytes whose bits are a row's pixels are the row's bytes.
 ghost use mathlib.Core.Path.{_≡_};
 ghost use mathlib.Core.Bool.{cond};
-ghost use Prim.Native.Nat.{ℕ, _+_, _*_, _/_, _≤_, _<_};
+ghost use Prim.Native.Nat.{ℕ, _+_, _*_, _/_, _^_, _≤_, _<_};
 ghost use lib.ListN.{length, getD, take, drop};
 ghost use Rattle.bits.specs.Bits.{bitIn, bitOf, among};
 
@@ -27,12 +27,20 @@ pub fn bit_at(bytes: &[u8], n: usize) -> bool
     false
 }
 
+// A byte whose bits from i on are 1.
+fn ones_from(i: u32) -> u32
+    requires { ⌜ i ≤ 8 ⌝ }
+    ensures { λ r. ⌜ r ≡ 255 / 2 ^ i ⌝ }
+{
+    255 >> i
+}
+
 // The byte with bits i to j written.
 fn with_bits(b: u8, i: u32, j: u32, dark: bool) -> u8
     requires { ⌜ i ≤ j ⌝ ∗ ⌜ j ≤ 8 ⌝ }
     ensures { λ r. ⌜ ((k : ℕ) → k < 8 → bitIn r k ≡ cond (among i j k) dark (bitIn b k)) ⌝ }
 {
-    let mask = ((255u32 >> i) - (255u32 >> j)) as u8;
+    let mask = (ones_from(i) - ones_from(j)) as u8;
     if dark { b | mask } else { b & !mask }
 }
 
