@@ -1,5 +1,5 @@
 use native.Mathlib.Omega.{arith}
-use mathlib.Core.Path.{_≡_, sym, ap, subst}
+use mathlib.Core.Path.{sym, ap, subst}
 use lib.ListN.{length}
 use Rattle.film.proofs.Limiting.{limits-of}
 use Rattle.sheet.specs.Sheet.{Sheet}

@@ -1,5 +1,5 @@
 use native.Mathlib.Omega.{arith}
-use mathlib.Core.Path.{_≡_, refl, sym, ap, _∙_}
+use mathlib.Core.Path.{refl, sym, ap, _∙_}
 use Rattle.testcard.proofs.Drawing.{between-none, between-more, all-drawn}
 use Rattle.testcard.proofs.card.draw_rows.Needs as need
 
