@@ -1,14 +1,13 @@
 -- A film's sheet reads back as the film.
-use mathlib.Core.Path.{_≡_, refl, sym, ap, subst, _∙_}
-use mathlib.Core.Bool.{Bool, true, false, cond, _&&_}
+use mathlib.Core.Path.{_≡_, refl, sym, ap, _∙_}
+use mathlib.Core.Bool.{Bool, true, false, cond}
 use mathlib.Core.List.{List, [], _∷_, _++_, append-assoc}
-use mathlib.Core.Logic.{_⊎_, inl, inr, ⊎-elim}
+use mathlib.Core.Logic.{_⊎_, ⊎-elim}
 use Prim.Native.Nat.{ℕ, zero, suc, _+_, _-_, _*_, _/_, _%_, _^_, _<_, _≤_}
 use native.Mathlib.Nat.{two-pow-succ, div-div-eq-div-mul}
 use native.Mathlib.Numerals.{add-one}
 use native.Mathlib.Omega.{arith}
-use lib.Chars.{codes}
-use lib.Dec.{leb, ltb, eqb}
+use lib.Dec.{eqb}
 use lib.ListN.{length, getD, take, drop}
 use Rattle.std.specs.Reads.{value}
 use Rattle.std.specs.Text.{asciiDigit}
@@ -24,12 +23,12 @@ use Rattle.std.proofs.shelf.Ways.{tells}
 use Rattle.film.specs.Film.{Meaning}
 use Rattle.film.specs.Packed.{bytesFor, binary, byteOf, inked, rowBytes}
 use Rattle.film.proofs.Packing.{length-rowBytes}
-use Rattle.sheet.specs.Sheet.{header, sheetSized, sheetLength, put, opened, rowOutput}
-use Rattle.sheet.specs.Whole.{rows, sheetBytes, sheetAt, rowByRow, filmOutput}
-use Rattle.sheet.specs.Reading.{numberAt, past, readWidth, readHeight, raster, readPixel, ReadsBack, RowsReadBack}
+use Rattle.sheet.specs.Sheet.{header, sheetSized, sheetLength, put}
+use Rattle.sheet.specs.Whole.{rows, sheetBytes, rowByRow}
+use Rattle.sheet.specs.Reading.{numberAt, past, readWidth, raster, ReadsBack, RowsSoFar, RowsReadBack}
 use Rattle.sheet.proofs.Putting.{length-put}
 use Rattle.sheet.proofs.Rows.{header-within}
-use Rattle.sheet.proofs.Writing.{length-rows, rows-within, rows-more, put-none, all-rows}
+use Rattle.sheet.proofs.Writing.{length-rows, rows-within, rows-more, put-none, after-header}
 
 -- digits and one byte that is none
 leading-digits : (ds : List ℕ) (b : ℕ) (ys : List ℕ) → allDigits ds ≡ true → asciiDigit b ≡ false → leading asciiDigit (ds ++ b ∷ ys) ≡ length ds
@@ -143,6 +142,8 @@ row-by-row m (suc n) out s l h =
     rows-more m n mid (rowByRow m n out) (omega arith) (omega arith) (omega (arith, header-within (m .frame .width) (m .frame .height))) below
     ∙ ap (λ j. put (length head) (rows m j) mid) (add-one n)
 
+pub rows-so-far : RowsSoFar
+rows-so-far m n out s l h = row-by-row m n out s l h ∙ after-header m n out
+
 pub rows-read-back : RowsReadBack
-rows-read-back m out s l =
-    reads-back m (drop (0 + length (sheetBytes m)) out) _ s (row-by-row m (m .frame .height) out s l (omega arith) ∙ all-rows m out)
+rows-read-back m out s l = reads-back m (drop (0 + length (sheetBytes m)) out) _ s (rows-so-far m (m .frame .height) out s l (omega arith))

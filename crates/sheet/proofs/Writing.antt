@@ -1,12 +1,12 @@
 -- One row of a film after another.
-use mathlib.Core.Path.{_≡_, refl, sym, ap, _∙_}
-use mathlib.Core.Bool.{Bool, true, false, cond, _&&_}
-use mathlib.Core.List.{List, [], _∷_, _++_, append-nil}
+use mathlib.Core.Path.{_≡_, sym, ap, _∙_}
+use mathlib.Core.Bool.{true, cond}
+use mathlib.Core.List.{List, [], _++_}
 use Prim.Native.Nat.{ℕ, zero, suc, _+_, _-_, _*_, _<_, _≤_}
 use native.Mathlib.Nat.{add-mul, zero-add}
 use native.Mathlib.Numerals.{add-one}
 use native.Mathlib.Omega.{arith}
-use lib.Dec.{leb, ltb, eqb}
+use lib.Dec.{leb}
 use lib.ListN.{length, take, drop}
 use Rattle.std.proofs.shelf.Bits.{mul-le}
 use Rattle.std.proofs.shelf.Lists.{length-append, take-append-drop}
@@ -20,9 +20,9 @@ use Rattle.film.specs.Film.{Meaning}
 use Rattle.film.specs.Packed.{bytesFor, rowBytes}
 use Rattle.film.proofs.Limiting.{limits-of, narrow, short}
 use Rattle.film.proofs.Packing.{length-rowBytes}
-use Rattle.sheet.specs.Sheet.{Sheet, put, header, sheetLength, sheetSized, openAnswer, opened, rowPlace, rowFits, rowTaken, rowOutput, rowSheet}
+use Rattle.sheet.specs.Sheet.{Sheet, put, header, sheetLength, sheetSized, openAnswer, opened, rowPlace, rowTaken, rowOutput, rowSheet}
 use Rattle.sheet.specs.Whole.{rows, sheetBytes, sheetAt}
-use Rattle.sheet.proofs.Putting.{put-put, length-put}
+use Rattle.sheet.proofs.Putting.{put-put}
 use Rattle.sheet.proofs.Rows.{header-within}
 
 pub length-rows : (m : Meaning) (n : ℕ) → length (rows m n) ≡ n * bytesFor (m .frame .width)
@@ -125,16 +125,16 @@ row-again m n s t u out mid xs ys o k l h b a e =
           ∙ rows-more m n mid xs h room (omega (arith, o .room, header-within (m .frame .width) (m .frame .height))) (b .1),
     )
 
--- all rows after the header are the sheet
-pub all-rows : (m : Meaning) (out : List ℕ) → put (length (header (m .frame .width) (m .frame .height))) (rows m (m .frame .height)) (put 0 (header (m .frame .width) (m .frame .height)) out)
-    ≡ put 0 (sheetBytes m) out
-all-rows m out =
+-- the header, and rows after it, are put at once
+pub after-header : (m : Meaning) (n : ℕ) (out : List ℕ)
+    → put (length (header (m .frame .width) (m .frame .height))) (rows m n) (put 0 (header (m .frame .width) (m .frame .height)) out)
+    ≡ put 0 (header (m .frame .width) (m .frame .height) ++ rows m n) out
+after-header m n out =
     let head = header (m .frame .width) (m .frame .height) in
-    ap (λ k. put k (rows m (m .frame .height)) (put 0 head out)) (sym (zero-add (length head)))
-    ∙ put-put 0 head (rows m (m .frame .height)) out (omega arith)
+    ap (λ k. put k (rows m n) (put 0 head out)) (sym (zero-add (length head))) ∙ put-put 0 head (rows m n) out (omega arith)
 
 pub all-written : (m : Meaning) (n : ℕ) (s u : Sheet) (out mid xs : List ℕ) → Opening m u out mid → n ≡ m .frame .height → Between m s n mid xs
     → xs ≡ put 0 (sheetBytes m) out
 all-written m n s u out mid xs o e b =
     let head = length (header (m .frame .width) (m .frame .height)) in
-    b .1 ∙ ap (λ k. put head (rows m k) mid) e ∙ ap (λ ys. put head (rows m (m .frame .height)) ys) (o .output) ∙ all-rows m out
+    b .1 ∙ ap (λ k. put head (rows m k) mid) e ∙ ap (λ ys. put head (rows m (m .frame .height)) ys) (o .output) ∙ after-header m (m .frame .height) out

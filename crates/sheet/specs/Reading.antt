@@ -1,7 +1,7 @@
 -- Reading a sheet by the rules of the form P4.
 use mathlib.Core.Path.{_≡_}
 use mathlib.Core.Bool.{Bool, true}
-use mathlib.Core.List.{List}
+use mathlib.Core.List.{List, _++_}
 use Prim.Native.Nat.{ℕ, _+_, _-_, _*_, _/_, _%_, _^_, _<_, _≤_}
 use lib.Chars.{codes}
 use lib.Dec.{eqb}
@@ -10,8 +10,8 @@ use Rattle.std.specs.Reads.{value}
 use Rattle.std.specs.Text.{asciiDigit}
 use Rattle.std.specs.shelf.Lists.{leading}
 use Rattle.film.specs.Film.{Meaning}
-use Rattle.sheet.specs.Sheet.{sheetSized, sheetLength}
-use Rattle.sheet.specs.Whole.{rowByRow}
+use Rattle.sheet.specs.Sheet.{sheetSized, header, sheetLength, put}
+use Rattle.sheet.specs.Whole.{rows, rowByRow}
 
 -- the decimal number at the front of some bytes
 abbrev pub numberAt : List ℕ → ℕ
@@ -41,6 +41,13 @@ pub record ReadsBack (xs : List ℕ) (m : Meaning) : Type 0 where
   pub width : readWidth xs ≡ m .frame .width
   pub height : readHeight xs ≡ m .frame .height
   pub pixels : (c r : ℕ) → c < m .frame .width → r < m .frame .height → readPixel xs c r ≡ m .pixel c r
+
+-- with rows 0 to n − 1 of a film written in turn, an output has the header and these rows, and after
+-- them what it had
+abbrev pub RowsSoFar : Type 0
+RowsSoFar = (m : Meaning) (n : ℕ) (out : List ℕ) → sheetSized (m .frame .width) (m .frame .height) ≡ true
+    → sheetLength (m .frame .width) (m .frame .height) ≤ length out → n ≤ m .frame .height
+    → rowByRow m n out ≡ put 0 (header (m .frame .width) (m .frame .height) ++ rows m n) out
 
 -- a sheet opened at a film's size, with all the film's rows written to it in turn, reads back as the film
 abbrev pub RowsReadBack : Type 0

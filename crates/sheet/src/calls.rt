@@ -1,11 +1,9 @@
 // The calls on a sheet: open, one row after another, close.
 ghost use mathlib.Core.Path.{_≡_};
-ghost use mathlib.Core.Bool.{true};
-ghost use mathlib.Core.List.{_++_};
 ghost use Prim.Native.Nat.{_+_, _*_, _<_, _≤_};
-ghost use lib.ListN.{length, drop};
+ghost use lib.ListN.{length};
 ghost use Rattle.film.specs.Packed.{bytesFor, rowBytes};
-ghost use Rattle.sheet.specs.Sheet.{sheetLength, put, openAnswer, opened, rowPlace, rowAnswer, rowOutput, rowSheet};
+ghost use Rattle.sheet.specs.Sheet.{put, openAnswer, opened, rowPlace, rowAnswer, rowOutput, rowSheet};
 ghost use Rattle.sheet.specs.Faults.{told};
 ghost use Rattle.sheet.specs.Made.{sheetOf, toldSheet, CloseAnswer};
 use crate::closed::ClosedSheet;

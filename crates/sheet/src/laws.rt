@@ -1,10 +1,11 @@
-// What the calls on a sheet come to.
+// What the calls on a sheet come to, one after another.
 ghost use mathlib.Core.Path.{_≡_};
-ghost use Rattle.sheet.specs.Reading.{RowsReadBack};
+ghost use Rattle.sheet.specs.Reading.{RowsSoFar, RowsReadBack};
 
-// A sheet with all rows of a film reads back as the film.
-pub fn written_rows_read_back() -> u8
-    ensures law { λ _. ⌜ RowsReadBack ⌝ }
+// Rows written in turn stand one after another, and all rows of a film read back as the film.
+pub fn rows_written_in_turn() -> u8
+    ensures so_far { λ _. ⌜ RowsSoFar ⌝ }
+    ensures read_back { λ _. ⌜ RowsReadBack ⌝ }
     ensures value { λ r. ⌜ r ≡ 0 ⌝ }
 {
     0

@@ -15,7 +15,7 @@ pub record CardDrawn (m n : Meaning) : Type 0 where
 pub record DrawnFrom (m : Meaning) (first : ℕ) (n : Meaning) : Type 0 where
   pub frame : n .frame ≡ m .frame
   pub pixels : (c r : ℕ) → c < m .frame .width → r < m .frame .height
-    → n .pixel c r ≡ cond (leb first r) (cardPixel (m .frame .width) (m .frame .height) c r) (m .pixel c r)
+      → n .pixel c r ≡ cond (leb first r) (cardPixel (m .frame .width) (m .frame .height) c r) (m .pixel c r)
 
 -- columns first to end − 1 are those of a row of w pixels where p holds
 pub record Covers (w first end : ℕ) (p : ℕ → Bool) : Type 0 where
@@ -32,4 +32,4 @@ pub record RowShows (m : Meaning) (row : ℕ) (p : ℕ → Bool) (n : Meaning) :
 pub record Marked (m : Meaning) (row first end : ℕ) (n : Meaning) : Type 0 where
   pub frame : n .frame ≡ m .frame
   pub pixels : (c r : ℕ) → c < m .frame .width → r < m .frame .height
-    → n .pixel c r ≡ (eqb r row && (leb first c && ltb c end)) || m .pixel c r
+      → n .pixel c r ≡ (eqb r row && (leb first c && ltb c end)) || m .pixel c r

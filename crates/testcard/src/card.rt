@@ -2,7 +2,6 @@
 ghost use mathlib.Core.Path.{_≡_};
 ghost use mathlib.Core.Bool.{true, false};
 ghost use Prim.Native.Nat.{_<_, _≤_};
-ghost use Rattle.film.specs.Film.{SpanWritten};
 ghost use Rattle.film.specs.Made.{frameOf};
 ghost use Rattle.testcard.specs.Card.{cardPixel};
 ghost use Rattle.testcard.specs.Drawn.{CardDrawn, DrawnFrom, RowShows, Marked};

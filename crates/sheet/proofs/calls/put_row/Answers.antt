@@ -1,4 +1,3 @@
-use native.Mathlib.Omega.{arith}
 use Rattle.sheet.proofs.Rows.{row-put}
 use Rattle.sheet.proofs.calls.put_row.Needs as need
 

@@ -1,4 +1,3 @@
-use native.Mathlib.Omega.{arith}
 use Rattle.sheet.proofs.Putting.{put-one}
 use Rattle.sheet.proofs.header.put_byte.Needs as need
 

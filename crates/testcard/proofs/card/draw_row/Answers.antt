@@ -1,5 +1,4 @@
-use native.Mathlib.Omega.{arith}
-use mathlib.Core.Path.{_≡_, ap, _∙_}
+use mathlib.Core.Path.{ap, _∙_}
 use Rattle.film.proofs.Limiting.{limits-of}
 use Rattle.testcard.proofs.Drawing.{mark-more}
 use Rattle.testcard.proofs.card.draw_row.Needs as need

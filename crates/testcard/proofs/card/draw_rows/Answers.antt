@@ -1,5 +1,5 @@
 use native.Mathlib.Omega.{arith}
-use mathlib.Core.Path.{_≡_, refl, sym, ap, _∙_}
+use mathlib.Core.Path.{refl, sym, ap, _∙_}
 use Rattle.testcard.proofs.Drawing.{between-none, between-more, all-drawn}
 use Rattle.testcard.proofs.card.draw_rows.Needs as need
 
@@ -11,9 +11,10 @@ draw-row-requires g c κs = (c .numbers-n .ensures ∙ sym (c .loop-row .inv .0 
 
 pub loop-row-again : need.loop-row-again
 loop-row-again g c =
-    let f = c .numbers-n .ensures in
-    ( between-more (omega arith) (c .loop-row .inv .0) (ap (λ k. k .width) f) (ap (λ k. k .height) f) (c .draw-row .ensures .shows)
-    , c .draw-row .ensures .beside ∙ c .loop-row .inv .1 )
+    let f = c .numbers-n .ensures in (
+      between-more (omega arith) (c .loop-row .inv .0) (ap (λ k. k .width) f) (ap (λ k. k .height) f) (c .draw-row .ensures .shows),
+      c .draw-row .ensures .beside ∙ c .loop-row .inv .1,
+    )
 
 pub returns : need.returns
 returns g c =

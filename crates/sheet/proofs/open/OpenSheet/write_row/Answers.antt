@@ -1,5 +1,5 @@
 use native.Mathlib.Omega.{arith}
-use mathlib.Core.Path.{_≡_, ap, sym, _∙_}
+use mathlib.Core.Path.{ap, sym, _∙_}
 use Rattle.sheet.proofs.Rows.{row-room}
 use Rattle.sheet.proofs.open.OpenSheet.write_row.Needs as need
 
