@@ -1,0 +1,4 @@
+pub mod Every
+pub mod Options
+pub mod Spelt
+pub mod Tiles
