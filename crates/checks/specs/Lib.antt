@@ -1,2 +1,3 @@
-pub mod ShapeSamples
 pub mod Samples
+pub mod ShapeSamples
+pub mod TickSamples
