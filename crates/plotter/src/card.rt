@@ -24,7 +24,12 @@ fn draw_card(film: Bitmap) -> Bitmap {
     draw_test_card(&mut film);
     let n = film.numbers();
     let (width, height) = (n.width / 4, n.height / 4);
-    let corner = Window { x: n.width - width, y: n.height - height, width, height };
+    let corner = Window {
+        x: n.width - width,
+        y: n.height - height,
+        width,
+        height,
+    };
     match CutOut::new(film, corner) {
         Ok(cut) => {
             let mut negative = Negative { below: cut };
@@ -49,7 +54,8 @@ fn film_reason(fault: FilmFault) -> &'static str {
 fn new_film(rt: &LibcRuntime, size: Size, pitch: u32) -> Result<Bitmap, Stop> {
     let row = (size.width as usize + 7) / 8;
     // a film past the limits is refused by its numbers, whatever its memory
-    let bytes = row.saturating_mul(size.height as usize).min(60_000 * 60_000 / 8);
+    let bytes = row.saturating_mul(size.height as usize)
+        .min(60_000 * 60_000 / 8);
     let memory = vec![in rt.alloc(); 0u8; bytes]?;
     match Bitmap::new(memory, size.width, size.height, pitch, 0, 0) {
         Ok(film) => Ok(film),
@@ -63,19 +69,35 @@ fn new_film(rt: &LibcRuntime, size: Size, pitch: u32) -> Result<Bitmap, Stop> {
 
 // Ticks of 5 µm in thousandths of a millimetre.
 fn thousandths(pixels: u32, pitch: u32) -> u64 {
-    (pixels as u64).saturating_mul(pitch as u64).saturating_mul(5)
+    (pixels as u64)
+        .saturating_mul(pitch as u64)
+        .saturating_mul(5)
 }
 
-fn tell_card(rt: &LibcRuntime, path: &str, size: Size, pitch: u32, bytes: usize) -> Result<(), Stop> {
+fn tell_card(
+    rt: &LibcRuntime,
+    path: &str,
+    size: Size,
+    pitch: u32,
+    bytes: usize,
+) -> Result<(), Stop> {
     let (w, h) = (size.width, size.height);
     let (x, y) = (thousandths(w, pitch), thousandths(h, pitch));
     let (x_mm, x_rest, y_mm, y_rest) = (x / 1000, x % 1000, y / 1000, y % 1000);
-    println!(rt, "{path}: test card of {w} by {h} pixels, {x_mm}.{x_rest:03} by {y_mm}.{y_rest:03} mm, {bytes} bytes")?;
+    println!(
+        rt,
+        "{path}: test card of {w} by {h} pixels, {x_mm}.{x_rest:03} by {y_mm}.{y_rest:03} mm, {bytes} bytes"
+    )?;
     Ok(())
 }
 
 // Draws a test card and writes it to `path`.
-pub(crate) fn expose_card(rt: &LibcRuntime, path: &str, size: Size, pitch: u32) -> Result<(), Stop> {
+pub(crate) fn expose_card(
+    rt: &LibcRuntime,
+    path: &str,
+    size: Size,
+    pitch: u32,
+) -> Result<(), Stop> {
     let film = draw_card(new_film(rt, size, pitch)?);
     let length = match sheet_length(size.width, size.height) {
         Ok(length) => length,

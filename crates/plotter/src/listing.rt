@@ -33,13 +33,21 @@ impl From<Stop> for Listing as ListingFromStop {
 }
 
 // Tells on standard error why a file is refused, and where.
-fn tell_refusal(rt: &LibcRuntime, path: &str, file: &[u8], fault: CommandFault) -> Result<(), Stop> {
+fn tell_refusal(
+    rt: &LibcRuntime,
+    path: &str,
+    file: &[u8],
+    fault: CommandFault,
+) -> Result<(), Stop> {
     let r = explain(fault);
     let at = advance(file, Position::first(file), r.place);
     let (number, place, taken, reason) = (r.number, r.place, r.taken, r.reason);
     let (line, column) = (at.line, at.column());
     eprintln!(rt, "plotter: {path} refused with {number}: {reason}")?;
-    eprintln!(rt, "plotter: byte {place}, line {line}, column {column}, after {taken} commands")?;
+    eprintln!(
+        rt,
+        "plotter: byte {place}, line {line}, column {column}; commands taken before it: {taken}"
+    )?;
     Ok(())
 }
 
@@ -108,4 +116,3 @@ pub(crate) fn list_commands(rt: &LibcRuntime, path: &str) -> Result<(), Stop> {
         Err(Listing::Stopped(stop)) => Err(stop),
     }
 }
-

@@ -38,7 +38,8 @@ pub(crate) impl From<io::Error> for Stop as StopFromIo {
     }
 }
 
-const USAGE: &str = "usage: plotter --commands=FILE\n       plotter --testcard=FILM --size=W,H [--pitch=P]";
+const USAGE: &str =
+    "usage: plotter --commands=FILE\n       plotter --testcard=FILM --size=W,H [--pitch=P]";
 
 // A film's width and height, as `--size` has them.
 #[derive(Clone, Copy)]
@@ -64,7 +65,10 @@ fn parse_number(text: &str) -> Option<u32> {
 
 fn parse_size(text: &str) -> Option<Size> {
     let (width, height) = text.split_once(',')?;
-    Some(Size { width: parse_number(width)?, height: parse_number(height)? })
+    Some(Size {
+        width: parse_number(width)?,
+        height: parse_number(height)?,
+    })
 }
 
 fn complain(rt: &LibcRuntime, about: &str, arg: &str) -> Result<(), Stop> {
@@ -80,7 +84,11 @@ fn take_option(rt: &LibcRuntime, wanted: &mut Wanted, arg: String) -> Result<(),
     }
     if let Some(text) = arg.as_str().strip_prefix("--size=") {
         wanted.size = parse_size(text);
-        return if wanted.size.is_some() { Ok(()) } else { complain(rt, "--size wants W,H, not", text) };
+        return if wanted.size.is_some() {
+            Ok(())
+        } else {
+            complain(rt, "--size wants W,H, not", text)
+        };
     }
     if let Some(text) = arg.as_str().strip_prefix("--pitch=") {
         return match parse_number(text) {
@@ -114,7 +122,11 @@ fn finish(rt: &LibcRuntime, wanted: &Wanted) -> Result<(), Stop> {
 }
 
 fn run(rt: &LibcRuntime) -> Result<(), Stop> {
-    let mut wanted = Wanted { card: None, size: None, pitch: 4 };
+    let mut wanted = Wanted {
+        card: None,
+        size: None,
+        pitch: 4,
+    };
     let mut options = 0usize;
     for arg in env::args(rt)?.skip(1) {
         take_option(rt, &mut wanted, arg)?;

@@ -20,7 +20,11 @@ impl Position {
         ensures bound { λ r. ⌜ r .line ≤ r .place + 1 ⌝ }
     {
         let _ = file;
-        Position { place: 0, line: 1, start: 0 }
+        Position {
+            place: 0,
+            line: 1,
+            start: 0,
+        }
     }
 
     // The column, from 1.

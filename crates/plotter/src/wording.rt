@@ -3,10 +3,10 @@ ghost use Rattle.commands.specs.Files.{commandTold};
 ghost use Rattle.plotter.specs.Refusals.{told};
 ghost use Rattle.words.specs.Words.{textTold};
 ghost use mathlib.Core.Path.{_≡_};
+use commands::CommandFault;
 use forms::AttributeKind;
 use forms::Code;
 use forms::Command;
-use commands::CommandFault;
 use forms::Coordinate;
 use forms::Count;
 use forms::Mode;
@@ -147,29 +147,66 @@ pub(crate) struct Described<'a> {
 fn show_defining<W: fmt::Write>(command: Command<'_>, f: &mut fmt::Formatter<W>) -> fmt::Result {
     match command {
         Command::Circle { code, diameter } => {
-            let d = Defined { code, figure: "a circle", width: diameter, height: None };
+            let d = Defined {
+                code,
+                figure: "a circle",
+                width: diameter,
+                height: None,
+            };
             write!(f, "{d}")
         }
-        Command::Rectangle { code, width, height } => {
-            let d = Defined { code, figure: "a rectangle", width, height: Some(height) };
+        Command::Rectangle {
+            code,
+            width,
+            height,
+        } => {
+            let d = Defined {
+                code,
+                figure: "a rectangle",
+                width,
+                height: Some(height),
+            };
             write!(f, "{d}")
         }
-        Command::Obround { code, width, height } => {
-            let d = Defined { code, figure: "an obround", width, height: Some(height) };
+        Command::Obround {
+            code,
+            width,
+            height,
+        } => {
+            let d = Defined {
+                code,
+                figure: "an obround",
+                width,
+                height: Some(height),
+            };
             write!(f, "{d}")
         }
         Command::BlockOpen { code } => {
             let number = code.number;
             write!(f, "block {number} opens")
         }
-        Command::RepeatOpen { columns, rows, step_x, step_y } => {
-            let r = Repeated { columns, rows, step_x, step_y };
+        Command::RepeatOpen {
+            columns,
+            rows,
+            step_x,
+            step_y,
+        } => {
+            let r = Repeated {
+                columns,
+                rows,
+                step_x,
+                step_y,
+            };
             write!(f, "{r}")
         }
         Command::Attribute { kind, text } => {
             let name = kind_name(kind);
             let text = text_of(text);
-            if text.is_empty() { write!(f, "{name}") } else { write!(f, "{name} {text}") }
+            if text.is_empty() {
+                write!(f, "{name}")
+            } else {
+                write!(f, "{name} {text}")
+            }
         }
         Command::Comment { text } => {
             let text = text_of(text);
@@ -215,16 +252,52 @@ fn show_setting<W: fmt::Write>(command: Command<'_>, f: &mut fmt::Formatter<W>) 
 fn show_operation<W: fmt::Write>(command: Command<'_>, f: &mut fmt::Formatter<W>) -> fmt::Result {
     match command {
         Command::Draw { x, y, i, j } => {
-            let (x, y) = (Written { letter: 'X', value: x }, Written { letter: 'Y', value: y });
-            let (i, j) = (Written { letter: 'I', value: i }, Written { letter: 'J', value: j });
+            let (x, y) = (
+                Written {
+                    letter: 'X',
+                    value: x,
+                },
+                Written {
+                    letter: 'Y',
+                    value: y,
+                },
+            );
+            let (i, j) = (
+                Written {
+                    letter: 'I',
+                    value: i,
+                },
+                Written {
+                    letter: 'J',
+                    value: j,
+                },
+            );
             write!(f, "draw{x}{y}{i}{j}")
         }
         Command::Move { x, y } => {
-            let (x, y) = (Written { letter: 'X', value: x }, Written { letter: 'Y', value: y });
+            let (x, y) = (
+                Written {
+                    letter: 'X',
+                    value: x,
+                },
+                Written {
+                    letter: 'Y',
+                    value: y,
+                },
+            );
             write!(f, "move{x}{y}")
         }
         Command::Flash { x, y } => {
-            let (x, y) = (Written { letter: 'X', value: x }, Written { letter: 'Y', value: y });
+            let (x, y) = (
+                Written {
+                    letter: 'X',
+                    value: x,
+                },
+                Written {
+                    letter: 'Y',
+                    value: y,
+                },
+            );
             write!(f, "flash{x}{y}")
         }
         _ => Ok(()),
@@ -234,9 +307,18 @@ fn show_operation<W: fmt::Write>(command: Command<'_>, f: &mut fmt::Formatter<W>
 pub(crate) impl fmt::Display for Described<'_> as DescribedDisplay {
     fn fmt<W: fmt::Write>(&self, f: &mut fmt::Formatter<W>) -> fmt::Result {
         match self.command {
-            Command::Format { .. } | Command::Unit(_) | Command::Polarity(_) => show_setting(self.command, f),
-            Command::Mirror { .. } | Command::Mode(_) | Command::Select { .. } => show_setting(self.command, f),
-            Command::Draw { .. } | Command::Move { .. } | Command::Flash { .. } => show_operation(self.command, f),
+            Command::Format { .. } | Command::Unit(_) | Command::Polarity(_) => show_setting(
+                self.command,
+                f,
+            ),
+            Command::Mirror { .. } | Command::Mode(_) | Command::Select { .. } => show_setting(
+                self.command,
+                f,
+            ),
+            Command::Draw { .. } | Command::Move { .. } | Command::Flash { .. } => show_operation(
+                self.command,
+                f,
+            ),
             Command::BlockClose => write!(f, "block closes"),
             Command::RepeatClose => write!(f, "step and repeat closes"),
             Command::MultiQuadrant => write!(f, "arcs in any quadrants"),
@@ -261,9 +343,19 @@ fn explain_text(fault: TextFault) -> Refusal
     ensures { λ r. ⌜ told r ≡ textTold fault ⌝ }
 {
     match fault {
-        TextFault::Byte { place, taken } => Refusal { number: 10, place, taken, reason: "this byte may not stand here" },
+        TextFault::Byte { place, taken } => Refusal {
+            number: 10,
+            place,
+            taken,
+            reason: "this byte may not stand here",
+        },
         TextFault::End { place, taken } => {
-            Refusal { number: 11, place, taken, reason: "the file ends inside a command or before M02" }
+            Refusal {
+                number: 11,
+                place,
+                taken,
+                reason: "the file ends inside a command or before M02",
+            }
         }
     }
 }
@@ -274,7 +366,12 @@ pub(crate) fn explain(fault: CommandFault) -> Refusal
     match fault {
         CommandFault::Text(fault) => explain_text(fault),
         CommandFault::Form { place, taken } => {
-            Refusal { number: 20, place, taken, reason: "the command has none of the forms that this plotter knows" }
+            Refusal {
+                number: 20,
+                place,
+                taken,
+                reason: "the command has none of the forms that this plotter knows",
+            }
         }
     }
 }
