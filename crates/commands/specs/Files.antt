@@ -10,7 +10,7 @@ use Rattle.std.specs.declared.result.Result.{Result}
 use Rattle.std.specs.declared.result.Result.the-variants.{Ok, Err}
 use Rattle.ticks.specs.declared.Decimals.{Decimals}
 use Rattle.ticks.specs.declared.Decimals.the-variants.{Four, Five, Six}
-use Rattle.words.specs.Words.{Piece, Told, WordSeen, closing, nextWord, textTold}
+use Rattle.words.specs.Words.{Told, WordSeen, closing, fault, nextWord, onward, textTold}
 use Rattle.forms.specs.Forms.{formOf}
 use Rattle.forms.specs.Orders as order
 use Rattle.forms.specs.Orders.{Order, seenCommand}
@@ -22,7 +22,7 @@ use Rattle.commands.specs.declared.Read.{Read}
 -- A refusal of the text tells what the text layer tells; a command of none of the forms is refusal 20.
 abbrev pub commandTold : CommandFault → Told
 commandTold (Text t) = textTold t
-commandTold (Form p k) = record { number = 20; place = p; taken = k }
+commandTold (Form p k) = fault 20 p k
 
 abbrev pub placesOf : Decimals → ℕ
 placesOf Four = 4
@@ -40,22 +40,22 @@ pub record ReadSeen : Type 0 where
   pub place : ℕ
   pub next : ℕ
 
-abbrev pub seenRead : Result Read CommandFault → Result ReadSeen CommandFault
-seenRead r = results.mapped (λ x. record { order = seenCommand (x .command); place = x .place; next = x .next }) (λ e. e) r
+-- An answer of the program, with what its refusal tells.
+abbrev pub toldCommand : {A : Type 0} → Result A CommandFault → Result A Told
+toldCommand r = results.mapped (λ x. x) commandTold r
+
+-- The same of a command that was read, as plain values.
+abbrev pub seenRead : Result Read CommandFault → Result ReadSeen Told
+seenRead r = results.mapped (λ x. record { order = seenCommand (x .command); place = x .place; next = x .next }) commandTold r
 
 -- A word of none of the forms is refused at its first content byte.
-abbrev pub formed : ℕ → WordSeen → Option Order → Result ReadSeen CommandFault
-formed k w None = Err (Form (w .content .at) k)
+abbrev pub formed : ℕ → WordSeen → Option Order → Result ReadSeen Told
+formed k w None = Err (fault 20 (w .content .at) k)
 formed k w (Some o) = Ok (record { order = o; place = w .content .at; next = w .next })
 
--- What follows from a good answer; a refusal goes up a layer.
-abbrev pub onward : {A B E F : Type 0} → (E → F) → Result A E → (A → Result B F) → Result B F
-onward up (Ok x) f = f x
-onward up (Err e) f = Err (up e)
-
 -- The next command of the file xs from i on: first its text, then its form.
-abbrev pub nextCommand : ℕ → List ℕ → ℕ → Option Format → Result ReadSeen CommandFault
-nextCommand k xs i f = onward Text (nextWord k xs i) (λ w. formed k w (formOf (longestOf f) w))
+abbrev pub nextCommand : ℕ → List ℕ → ℕ → Option Format → Result ReadSeen Told
+nextCommand k xs i f = onward (nextWord k xs i) (λ w. formed k w (formOf (longestOf f) w))
 
 -- A command ends behind the place where it was looked for, and within the file.
 abbrev pub Goes : ℕ → ℕ → Result Read CommandFault → Type 0
@@ -110,22 +110,22 @@ abbrev pub formatAfter : Order → Option Format → Option Format
 formatAfter o before = setBy (turnOf o) before
 
 -- `nextCommand` under a name that proofs do not open.
-unfoldable pub commandAt : ℕ → List ℕ → ℕ → Option Format → Result ReadSeen CommandFault
+unfoldable pub commandAt : ℕ → List ℕ → ℕ → Option Format → Result ReadSeen Told
 commandAt k xs i f = nextCommand k xs i f
 
 -- The last of k commands ends at i, and nothing but CR and LF follows.
-unfoldable pub ended : ℕ → List ℕ → ℕ → Result ℕ CommandFault
-ended k xs i = onward Text (closing k xs i) (λ _. Ok k)
+unfoldable pub ended : ℕ → List ℕ → ℕ → Result ℕ Told
+ended k xs i = onward (closing k xs i) (λ _. Ok k)
 
 -- Behind M02 the file ends; behind any other command `more` reads on.
-abbrev pub behind : ℕ → List ℕ → Option Format → (ℕ → Option Format → Result ℕ CommandFault) → ReadSeen → Result ℕ CommandFault
+abbrev pub behind : ℕ → List ℕ → Option Format → (ℕ → Option Format → Result ℕ Told) → ReadSeen → Result ℕ Told
 behind k xs f more r = cond (isEnd (r .order)) (ended k xs (r .next)) (more (r .next) (formatAfter (r .order) f))
 
 -- k commands were taken, and the file xs is read on from i under the format f, over at most `fuel` commands.
-abbrev pub run : ℕ → ℕ → List ℕ → ℕ → Option Format → Result ℕ CommandFault
+abbrev pub run : ℕ → ℕ → List ℕ → ℕ → Option Format → Result ℕ Told
 run zero k xs i f = Ok k
-run (suc fuel) k xs i f = onward (λ e. e) (commandAt k xs i f) (behind (k + 1) xs f (run fuel (k + 1) xs))
+run (suc fuel) k xs i f = onward (commandAt k xs i f) (behind (k + 1) xs f (run fuel (k + 1) xs))
 
 -- How many commands the file xs has: every command has a byte or more, so the fuel never runs out.
-abbrev pub countCommands : List ℕ → Result ℕ CommandFault
+abbrev pub countCommands : List ℕ → Result ℕ Told
 countCommands xs = run (suc (length xs)) 0 xs 0 None

@@ -8,7 +8,7 @@
 // A refusal is a `CommandFault`, which carries a `TextFault` whole. specs/Files.antt says which
 // number, place and count each refusal tells (`commandTold`), and what is read from which file.
 ghost use Prim.Native.Nat.{_+_, _<_, _≤_, _^_};
-ghost use Rattle.commands.specs.Files.{Goes, commandAt, countCommands, ended, formatAfter, isEnd, longestOf, nextCommand, placesOf, seenRead};
+ghost use Rattle.commands.specs.Files.{Goes, commandAt, countCommands, ended, formatAfter, isEnd, longestOf, nextCommand, placesOf, seenRead, toldCommand};
 ghost use Rattle.commands.specs.declared.CommandFault.the-variants.{Text};
 ghost use Rattle.forms.specs.Forms.{formOf};
 ghost use Rattle.forms.specs.Orders.{seenCommand, seenOption};
@@ -131,7 +131,7 @@ fn step<'a>(
 }
 
 fn finish(file: &[u8], at: usize, taken: usize) -> Result<usize, CommandFault>
-    ensures { λ r. ⌜ r ≡ ended taken (now (file .entry)) at ⌝ }
+    ensures { λ r. ⌜ toldCommand r ≡ ended taken (now (file .entry)) at ⌝ }
 {
     close(file, at, taken)?;
     Ok(taken)
@@ -139,7 +139,7 @@ fn finish(file: &[u8], at: usize, taken: usize) -> Result<usize, CommandFault>
 
 // How many commands a file has by text and form alone: up to M02, behind which nothing but CR and LF stands.
 pub fn count_commands(file: &[u8]) -> Result<usize, CommandFault>
-    ensures { λ r. ⌜ r ≡ countCommands (now (file .entry)) ⌝ }
+    ensures { λ r. ⌜ toldCommand r ≡ countCommands (now (file .entry)) ⌝ }
 {
     let mut at = 0;
     let mut taken = 0;

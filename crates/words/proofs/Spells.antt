@@ -6,9 +6,7 @@ use Rattle.std.specs.declared.result.Result.the-variants.{Err, Ok}
 use Rattle.std.specs.declared.result.Result.{Result}
 use Rattle.std.specs.shelf.Lists.{All, between, leading}
 use Rattle.words.specs.Spelling.{ClosedByGap, Content, Gap, Stand, WordsAreTheFile, Woven, spelled}
-use Rattle.words.specs.Words.{Piece, WordSeen, closing, contentEnd, extendedWord, isContent, isGap, nextWord, onward, plainWord, starAfter, starAt, wordFrom, wordStart}
-use Rattle.words.specs.declared.TextFault.the-variants.{Byte, End}
-use Rattle.words.specs.declared.TextFault.{TextFault}
+use Rattle.words.specs.Words.{Piece, WordSeen, closing, contentEnd, extendedWord, fault, isContent, isGap, nextWord, onward, plainWord, starAfter, starAt, wordFrom, wordStart}
 use lib.Dec.{eqb, leb}
 use lib.ListN.{drop, getD, length, length-drop, length-take, take, take-append-drop}
 use lib.Seq.{drop-drop, take-all}
@@ -78,7 +76,7 @@ extended-spells k xs i e w b a p l s h g =
     subst (Spells xs i) (split .2) (record { content = content-good xs (i + 1) e p l h; bytes = whole })
 
 -- the word at i, by whether the file ends there and whether a `%` stands there
-spells-by : (k : ℕ) (xs : List ℕ) (i : ℕ) (w : WordSeen) (a b : Bool) → leb (length xs) i ≡ a → eqb (getD xs i 0) 37 ≡ b → cond a (Err (End (length xs) k)) (cond b (onward (starAfter k xs (i + 1)) (extendedWord k xs (i + 1))) (onward (starAfter k xs i) (plainWord xs i))) ≡ Ok w → Spells xs i w
+spells-by : (k : ℕ) (xs : List ℕ) (i : ℕ) (w : WordSeen) (a b : Bool) → leb (length xs) i ≡ a → eqb (getD xs i 0) 37 ≡ b → cond a (Err (fault 11 (length xs) k)) (cond b (onward (starAfter k xs (i + 1)) (extendedWord k xs (i + 1))) (onward (starAfter k xs i) (plainWord xs i))) ≡ Ok w → Spells xs i w
 spells-by k xs i w true b p q h = absurd (never-ok _ w h)
 spells-by k xs i w false true p q h =
     let o = onward-ok (starAfter k xs (i + 1)) (extendedWord k xs (i + 1)) w h in

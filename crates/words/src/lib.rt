@@ -10,7 +10,7 @@
 // with their marks and the gaps between them, are the file, byte for byte.
 ghost use Prim.Native.Nat.{ℕ, _+_, _<_, _≤_};
 ghost use Rattle.words.specs.Spelling.{ClosedByGap, WordsAreTheFile};
-ghost use Rattle.words.specs.Words.{Moves, closing, contentEnd, isContent, isGap, nextWord, seenWord, starAfter, wordStart};
+ghost use Rattle.words.specs.Words.{Moves, closing, contentEnd, isContent, isGap, nextWord, seenWord, starAfter, toldText, wordStart};
 ghost use lib.ListN.{length};
 ghost use mathlib.Core.Path.{_≡_};
 
@@ -74,7 +74,7 @@ fn content_end(file: &[u8], at: usize) -> usize
 
 // The place of the `*` that ends the content at `from`.
 fn star_after(file: &[u8], from: usize, taken: usize) -> Result<usize, TextFault>
-    ensures { λ r. ⌜ r ≡ starAfter taken (now (file .entry)) from ⌝ }
+    ensures { λ r. ⌜ toldText r ≡ starAfter taken (now (file .entry)) from ⌝ }
 {
     let end = content_end(file, from);
     if end >= file.len() {
@@ -140,7 +140,7 @@ pub fn next_word(file: &[u8], at: usize, taken: usize) -> Result<Word<'_>, TextF
 
 // Sees that nothing but CR and LF stands from `at` on, where the last of `taken` commands ended.
 pub fn close(file: &[u8], at: usize, taken: usize) -> Result<(), TextFault>
-    ensures { λ r. ⌜ r ≡ closing taken (now (file .entry)) at ⌝ }
+    ensures { λ r. ⌜ toldText r ≡ closing taken (now (file .entry)) at ⌝ }
 {
     let rest = word_start(file, at);
     if rest < file.len() {
