@@ -22,8 +22,10 @@ padding n c r = ltb r (n .height) && (leb (n .width) c && ltb c (8 * bytesFor (n
 abbrev pub ownBytes : Numbers → ℕ
 ownBytes n = n .height * bytesFor (n .width)
 
+-- what a bitmap with these bytes and numbers means
 abbrev pub bitmapMeaning : List ℕ → Numbers → Meaning
 bitmapMeaning bytes n = record { frame = frameOf n; pixel = λ c r. pixelOf bytes (n .width) c r }
 
+-- the bytes past the film's own
 abbrev pub bitmapBeside : List ℕ → Numbers → Beside
 bitmapBeside bytes n = record { memory = drop (ownBytes n) bytes; pixels = [] }

@@ -28,3 +28,10 @@ byte-more xs from to k i j v dark old h f t ei ej w inv m = ⊎-elim
     let y : cond (leb from m && (ltb m to && ltb m (8 * k))) dark (old m) ≡ cond (leb from m && (ltb m to && ltb m (8 * (k + 1)))) dark (old m) = grind (arith, tells) in
     ap (λ z. bitIn z (m % 8)) g ∙ inv m ∙ y)
     (cases-eq (m / 8) k)
+
+-- a byte that is written over is a byte
+pub fit-more : (xs : List ℕ) (k v q : ℕ) → k < length xs → v < 256 → getD xs q 0 < 256 → getD (set xs k v) q 0 < 256
+fit-more xs k v q h l o = ⊎-elim
+    (λ (e : q ≡ k). rw e (rw getD-set-same l))
+    (λ (e : q ≡ k → ⊥). rw getD-set-other o)
+    (cases-eq q k)

@@ -5,8 +5,8 @@
 // Proofs about whole rows are here too: bytes whose bits are a row's pixels are the row's bytes.
 ghost use mathlib.Core.Path.{_≡_};
 ghost use mathlib.Core.Bool.{cond};
-ghost use Prim.Native.Nat.{ℕ, _+_, _*_, _/_, _≤_, _<_};
-ghost use lib.ListN.{length, take, drop};
+ghost use Prim.Native.Nat.{ℕ, _+_, _*_, _/_, _^_, _≤_, _<_};
+ghost use lib.ListN.{length, getD, take, drop};
 ghost use Rattle.bits.specs.Bits.{bitIn, bitOf, among};
 
 // A bit of a byte.
@@ -27,12 +27,20 @@ pub fn bit_at(bytes: &[u8], n: usize) -> bool
     false
 }
 
+// A byte whose bits from i on are 1.
+fn ones_from(i: u32) -> u32
+    requires { ⌜ i ≤ 8 ⌝ }
+    ensures { λ r. ⌜ r ≡ 255 / 2 ^ i ⌝ }
+{
+    255 >> i
+}
+
 // The byte with bits i to j written.
 fn with_bits(b: u8, i: u32, j: u32, dark: bool) -> u8
     requires { ⌜ i ≤ j ⌝ ∗ ⌜ j ≤ 8 ⌝ }
     ensures { λ r. ⌜ ((k : ℕ) → k < 8 → bitIn r k ≡ cond (among i j k) dark (bitIn b k)) ⌝ }
 {
-    let mask = ((255u32 >> i) - (255u32 >> j)) as u8;
+    let mask = (ones_from(i) - ones_from(j)) as u8;
     if dark { b | mask } else { b & !mask }
 }
 
@@ -48,6 +56,7 @@ pub fn fill_bits(bytes: &mut [u8], from: usize, to: usize, dark: bool)
     ensures filled { λ _. ⌜ ((n : ℕ) → n / 8 < length (now (bytes .entry)) → bitOf (now (bytes .exit)) n ≡ cond (among from to n) dark (bitOf (now (bytes .entry)) n)) ⌝ }
     ensures before { λ _. ⌜ ((k : ℕ) → 8 * k ≤ from → take k (now (bytes .exit)) ≡ take k (now (bytes .entry))) ⌝ }
     ensures after { λ _. ⌜ ((k : ℕ) → to ≤ 8 * k → drop k (now (bytes .exit)) ≡ drop k (now (bytes .entry))) ⌝ }
+    ensures fit { λ _. ⌜ ((k : ℕ) → getD (now (bytes .entry)) k 0 < 256 → getD (now (bytes .exit)) k 0 < 256) ⌝ }
 {
     if from >= to {
         return;

@@ -14,7 +14,9 @@ use Rattle.std.proofs.shelf.Counted.{map-counting-more, length-map-counting}
 use Rattle.std.proofs.shelf.Lists.{drop-more, set-at}
 use Rattle.std.proofs.shelf.Ways.{tells}
 use Rattle.film.specs.Film.{Meaning, readOf}
+use Rattle.std.specs.declared.result.Result.{Result}
 use Rattle.std.specs.declared.result.Result.the-variants.{Ok}
+use Rattle.film.specs.Faults.{Told}
 use Rattle.film.specs.Packed.{binary, inked, darkIn, byteOf, rowBytes, bytesFor, packAnswer, packed}
 
 binary-lt : (p : ℕ → Bool) (c n : ℕ) → binary p c n < 2 ^ n
@@ -26,8 +28,11 @@ pub room : (p : ℕ → Bool) (c n b : ℕ) → b ≡ binary p c n → n < 8 →
 room p c n b e h = let m : 2 ^ n ≤ 2 ^ 7 = pow-mono {j = 7} (omega arith) in let l = binary-lt p c n in omega arith
 
 -- a pixel of a row on the film is read as the row has it
-pub read-inked : (m : Meaning) (row c : ℕ) → row < m .frame .height → darkIn (readOf m c row) ≡ inked m row c
-read-inked m row c h = grind (arith, tells)
+pub read-inked : (m : Meaning) (row c : ℕ) (a : Result Bool Told) (dark : Bool) → dark ≡ darkIn a → a ≡ readOf m c row → row < m .frame .height
+    → dark ≡ inked m row c
+read-inked m row c a dark d e h =
+    let i : darkIn (readOf m c row) ≡ inked m row c = grind (arith, tells) in
+    d ∙ ap darkIn e ∙ i
 
 pub bit-more : (p : ℕ → Bool) (c n b v : ℕ) (dark : Bool) → b ≡ binary p c n → dark ≡ p (c + n) → v ≡ 2 * b + cond dark 1 0
     → v ≡ binary p c (n + 1)

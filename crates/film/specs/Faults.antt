@@ -10,9 +10,11 @@ pub record Told : Type 0 where
   pub number : ℕ
   pub place : ℕ
 
+-- refusal n of a call
 abbrev pub call : ℕ → Told
 call n = record { number = n; place = 0 }
 
+-- what each case of a film's refusal tells
 abbrev pub filmTold : FilmFault → Told
 filmTold Limits = call 1
 filmTold Memory = call 2

@@ -14,6 +14,7 @@ pub record Frame : Type 0 where
   pub ox : ℤ
   pub oy : ℤ
 
+-- the five numbers as one record
 abbrev pub framed : ℕ → ℕ → ℕ → ℤ → ℤ → Frame
 framed w h p x y = record { width = w; height = h; pitch = p; ox = x; oy = y }
 

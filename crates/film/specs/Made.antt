@@ -13,6 +13,7 @@ use Rattle.film.specs.declared.fault.FilmFault.{FilmFault}
 use Rattle.film.specs.Frame.{Frame, framed, inLimits, lowest, highest}
 use Rattle.film.specs.Faults.{filmTold, call}
 
+-- the numbers that the code holds
 abbrev pub frameOf : Numbers → Frame
 frameOf n = framed (n .width) (n .height) (n .pitch) (n .ox) (n .oy)
 

@@ -32,9 +32,11 @@ cut v m = record { frame = cutFrame v (m .frame); pixel = λ c r. m .pixel (v .x
 abbrev pub whole : Frame → Window
 whole f = record { x = 0; y = 0; width = f .width; height = f .height }
 
+-- where a cut-out lies
 abbrev pub fitted : Frame → Window → Window
 fitted f v = cond (windowOn f v) v (whole f)
 
+-- what a cut-out shows
 abbrev pub cutOut : Window → Meaning → Meaning
 cutOut v m = cut (fitted (m .frame) v) m
 
@@ -46,9 +48,10 @@ inWindow v c r = leb (v .x) c && ltb c (v .x + v .width) && leb (v .y) r && ltb 
 abbrev pub hidden : Window → Frame → ℕ → ℕ → Bool
 hidden v f c r = (ltb c (f .width) && ltb r (f .height)) && not (inWindow (fitted f v) c r)
 
--- what a cut-out hides: the other dark pixels of m, and all that lies beside m
+-- the dark pixels of m that a cut-out hides
 abbrev pub outside : Window → Meaning → ℕ → ℕ → Bool
 outside v m c r = hidden v (m .frame) c r && m .pixel c r
 
+-- what lies beside a cut-out: the pixels that it hides, and all that lies beside m
 abbrev pub besideCut : Window → Meaning → Beside → Beside
 besideCut v m b = record { memory = b .memory; pixels = outside v m ∷ b .pixels }

@@ -3,3 +3,4 @@ pub mod Steps
 pub mod Meaning
 pub mod Places
 pub mod Films
+pub mod Bytes

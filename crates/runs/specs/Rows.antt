@@ -8,9 +8,11 @@ use lib.ListN.{length}
 use Rattle.std.specs.shelf.Lists.{leading}
 use Rattle.runs.specs.declared.run.Run.{Run}
 
+-- columns a to b, which is not one of them
 abbrev pub run : ℕ → ℕ → Run
 run a b = record { first = a; end = b }
 
+-- the run holds column c
 abbrev pub inRun : Run → ℕ → Bool
 inRun x c = leb (x .first) c && ltb c (x .end)
 

@@ -19,10 +19,11 @@ rowSlots w = (w + 1) / 2
 abbrev pub runsOf : List ℕ → List Run → ℕ → ℕ → List Run
 runsOf counts slots w r = take (getD counts r 0) (drop (r * rowSlots w) slots)
 
--- row r is in order
+-- row r is in order: its runs fit its slots, ascend and never touch
 abbrev pub rowSound : List ℕ → List Run → ℕ → ℕ → Bool
 rowSound counts slots w r = leb (getD counts r 0) (rowSlots w) && rowOk 0 w (runsOf counts slots w r)
 
+-- what a film with these counts, slots and numbers means
 abbrev pub runMeaning : List ℕ → List Run → Numbers → Meaning
 runMeaning counts slots n = record { frame = frameOf n; pixel = λ c r. inRow (runsOf counts slots (n .width) r) c }
 

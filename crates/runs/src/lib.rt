@@ -7,6 +7,7 @@
 // `RunFilm::new` takes the memory and empties the film's rows, or hands it back with the reason;
 // `into_memory` gives it back. Counts and slots past the film's own stay as they were.
 pub mod making;
+mod pack;
 mod row;
 mod rows;
 pub mod run;

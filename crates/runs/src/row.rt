@@ -41,6 +41,13 @@ pub(crate) fn past(row: &[Run], limit: u32) -> usize
     i
 }
 
+// Whether the run meets or touches one that ends at `end` and began no later.
+fn meets(x: Run, end: u32) -> bool
+    ensures { λ r. ⌜ r ≡ leb (x .first) end ⌝ }
+{
+    x.first <= end
+}
+
 // The run from the `k`th on that joins a to b and all that it meets or touches, and the place of the next.
 pub(crate) fn join(row: &[Run], k: usize, a: u32, b: u32) -> (Run, usize)
     requires { ⌜ k ≤ length (now row) ⌝ }
@@ -49,7 +56,7 @@ pub(crate) fn join(row: &[Run], k: usize, a: u32, b: u32) -> (Run, usize)
     let mut j = k;
     let mut first = a;
     let mut end = b;
-    while j < row.len() && row[j].first <= end {
+    while j < row.len() && meets(row[j], end) {
         first = first.min(row[j].first);
         end = end.max(row[j].end);
         j += 1;

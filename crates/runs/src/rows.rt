@@ -1,11 +1,13 @@
 // A row of the film, in its counts and slots.
 ghost use mathlib.Core.Path.{_≡_};
 ghost use mathlib.Core.Bool.{true};
-ghost use Prim.Native.Nat.{ℕ, _+_, _*_, _≤_, _<_};
+ghost use Prim.Native.Nat.{ℕ, _+_, _*_, _/_, _≤_, _<_};
 ghost use lib.ListN.{length, getD, take, drop};
+ghost use Rattle.bits.specs.Bits.{bitOf};
 ghost use Rattle.runs.specs.Rows.{rowOk, RowWritten, inRow};
 ghost use Rattle.runs.specs.Slots.{rowSlots, runsOf, rowSound};
 ghost use Rattle.runs.specs.Changed.{Within, RowChanged};
+use crate::pack::pack_runs;
 use crate::row;
 use crate::run::Run;
 
@@ -58,4 +60,16 @@ pub(crate) fn read_row(counts: &[u32], slots: &[Run], w: u32, row: u32, c: u32) 
     let n = counts[row as usize] as usize;
     let start = row as usize * k;
     row::holds(&slots[start..start + n], c)
+}
+
+// Puts the row into the bits of `out`.
+pub(crate) fn pack_row(counts: &[u32], slots: &[Run], w: u32, row: u32, out: &mut [u8])
+    requires ready { ⌜ rowSound (now counts) (now slots) w row ≡ true ⌝ ∗ ⌜ row < length (now counts) ⌝ ∗ ⌜ row * rowSlots w + rowSlots w ≤ length (now slots) ⌝ }
+    ensures bits { λ _. ⌜ ((n : ℕ) → n / 8 < length (now (out .entry)) → bitOf (now (out .exit)) n ≡ inRow (runsOf (now (counts .entry)) (now (slots .entry)) w row) n) ⌝ }
+    ensures fit { λ _. ⌜ ((k : ℕ) → getD (now (out .exit)) k 0 < 256) ⌝ }
+{
+    let k = (w as usize + 1) / 2;
+    let n = counts[row as usize] as usize;
+    let start = row as usize * k;
+    pack_runs(&slots[start..start + n], out);
 }

@@ -51,4 +51,22 @@ pub impl Film for RunFilm as RunFilmFilm {
         );
         Ok(())
     }
+
+    fn pack_row(&self, row: u32, out: &mut [u8]) -> Result<(), FilmFault> {
+        if row >= self.numbers.height {
+            return Err(FilmFault::Off);
+        }
+        let bytes = (self.numbers.width as usize + 7) / 8;
+        if out.len() < bytes {
+            return Err(FilmFault::Short);
+        }
+        rows::pack_row(
+            &self.counts,
+            &self.slots,
+            self.numbers.width,
+            row,
+            &mut out[..bytes],
+        );
+        Ok(())
+    }
 }

@@ -2,7 +2,7 @@ use native.Mathlib.Omega.{arith}
 use mathlib.Core.Path.{_≡_, ap, _∙_}
 use Prim.Native.Nat.{_+_, _*_, _<_, _≤_}
 use lib.ListN.{length}
-use Rattle.film.specs.Packed.{inked, byteOf, bytesFor, darkIn}
+use Rattle.film.specs.Packed.{inked, byteOf, bytesFor}
 use Rattle.film.proofs.Packing.{room, read-inked, bit-more, byte-more, pack-answers, pack-ends}
 use Rattle.film.proofs.film.Film.pack_row.Needs as need
 
@@ -16,7 +16,7 @@ loop-j-again g c =
     let e = ap (λ f. f .height) (c .numbers-n .ensures) in
     let h : c .args .row < m .frame .height = omega arith in
     bit-more (inked m (c .args .row)) (8 * c .loop-k .k) (c .loop-j .j) (c .loop-j .byte) (c .with-bit-byte .result) (c .is-dark .result)
-    (c .loop-j .inv) (c .is-dark .ensures ∙ ap darkIn (c .read .ensures) ∙ read-inked m (c .args .row) (8 * c .loop-k .k + c .loop-j .j) h) (c .with-bit-byte .ensures)
+    (c .loop-j .inv) (read-inked m (c .args .row) (8 * c .loop-k .k + c .loop-j .j) _ (c .is-dark .result) (c .is-dark .ensures) (c .read .ensures) h) (c .with-bit-byte .ensures)
 
 pub loop-k-again : need.loop-k-again
 unfolding byteOf
