@@ -12,9 +12,11 @@ use Rattle.sheet.specs.declared.closed.Unclosed.{Unclosed}
 use Rattle.sheet.specs.Faults.{sheetTold}
 use Rattle.sheet.specs.Sheet.{Sheet, sheetLength}
 
+-- the sheet that the code holds
 abbrev pub sheetOf : OpenSheet → Sheet
 sheetOf s = record { width = s .width; height = s .height; written = s .written }
 
+-- an answer of opening, with what its refusal tells
 abbrev pub toldSheet : Result OpenSheet SheetFault → Result Sheet Told
 toldSheet (Ok s) = Ok (sheetOf s)
 toldSheet (Err e) = Err (sheetTold e)

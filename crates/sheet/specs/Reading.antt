@@ -21,13 +21,15 @@ numberAt xs = value 10 (take (leading asciiDigit xs) xs)
 abbrev pub past : List ℕ → List ℕ
 past xs = drop (leading asciiDigit xs + 1) xs
 
--- `P4` and a white byte, the width and a white byte, the height and a white byte, then the rows
+-- `P4` and a white byte, then the width
 abbrev pub readWidth : List ℕ → ℕ
 readWidth xs = numberAt (drop 3 xs)
 
+-- a white byte, then the height
 abbrev pub readHeight : List ℕ → ℕ
 readHeight xs = numberAt (past (drop 3 xs))
 
+-- a white byte, then the rows
 abbrev pub raster : List ℕ → List ℕ
 raster xs = past (past (drop 3 xs))
 

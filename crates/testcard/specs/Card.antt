@@ -11,10 +11,11 @@ onEdge w h c r = (eqb c 0 || (eqb r 0 || eqb (r + 1) h)) || eqb (c + 1) w
 abbrev pub onSteps : ℕ → ℕ → Bool
 onSteps c r = eqb (c / 8) (r / 8)
 
--- the cross in the centre: an arm over the middle half of the width, and a post over that of the height
+-- the cross in the centre: an arm over the middle half of the width
 abbrev pub onArm : ℕ → ℕ → ℕ → ℕ → Bool
 onArm w h c r = eqb r (h / 2) && (leb (w / 4) c && ltb c (w - w / 4))
 
+-- and a post over the middle half of the height
 abbrev pub onPost : ℕ → ℕ → ℕ → ℕ → Bool
 onPost w h c r = eqb c (w / 2) && (leb (h / 4) r && ltb r (h - h / 4))
 

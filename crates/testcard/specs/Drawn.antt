@@ -23,7 +23,7 @@ pub record Covers (w first end : ℕ) (p : ℕ → Bool) : Type 0 where
   pub within : end ≤ w
   pub same : (c : ℕ) → c < w → (leb first c && ltb c end) ≡ p c
 
--- a film m then is n: in one row the pixels where p holds are dark, and all else is as it was
+-- a film m then is n: one row is dark exactly where p holds, and all else is as it was
 pub record RowShows (m : Meaning) (row : ℕ) (p : ℕ → Bool) (n : Meaning) : Type 0 where
   pub frame : n .frame ≡ m .frame
   pub pixels : (c r : ℕ) → c < m .frame .width → r < m .frame .height → n .pixel c r ≡ cond (eqb r row) (p c) (m .pixel c r)
