@@ -17,6 +17,8 @@ mod shape_tests;
 mod table_tests;
 #[cfg(test)]
 mod tick_tests;
+#[cfg(test)]
+mod weight_tests;
 
 /// All worked examples hold, by the definitions.
 pub fn samples_hold() -> u8
