@@ -1,8 +1,10 @@
 ghost use Prim.Native.Nat.{_≤_};
-ghost use Rattle.table.specs.Tables.{Appended, records};
+ghost use Rattle.table.specs.Tables.{Appended, Kept, records};
+ghost use Rattle.table.specs.declared.Table.{Table};
 ghost use Rattle.std.specs.shelf.Maps.{nth};
 ghost use denote.Ref.{name};
-ghost use lib.ListN.{length, take};
+ghost use lib.ListN.{drop, length, take};
+ghost use mathlib.Core.List.{_++_};
 ghost use mathlib.Core.Path.{_≡_};
 use super::Full;
 use super::Table;
@@ -30,9 +32,10 @@ impl<'a, T: Copy> Table<'a, T> {
         }
     }
 
-    // How many records it holds.
+    // How many records it holds. The slots hold these, and behind them what they held when they were lent.
     pub fn len(&self) -> usize
-        ensures { λ r. ⌜ r ≡ length (records (now (self .entry))) ⌝ }
+        ensures count { λ r. ⌜ r ≡ length (records (now (self .entry))) ⌝ }
+        ensures slots { λ r. ⌜ ((old : Table T) → Kept old (now (self .entry)) → now (now (self .entry) .slots) ≡ records (now (self .entry)) ++ drop r (now (old .slots))) ⌝ }
     {
         self.len
     }
