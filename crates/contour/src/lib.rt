@@ -8,6 +8,8 @@
 // A piece counts for a point if exactly one of its ends lies at or below the point's height and the point lies to the
 // left of the way up. So the left and the lower edges are covered, and the right and the upper ones are not.
 
+#![tactic(auto)]
+
 pub mod chain;
 pub mod contour;
 pub mod contour_shape;

@@ -7,6 +7,9 @@
 //
 // `centres` has the centre of a pixel as a point, `reach` the columns and rows that lie before or
 // up to an edge of the box. specs/Painted.antt says what a film then shows.
+
+#![tactic(auto)]
+
 mod area;
 mod centres;
 pub mod painting;

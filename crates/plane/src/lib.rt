@@ -8,6 +8,8 @@
 //
 // Since the ranges stand in the types, no function here wants a condition, and no product can pass its number type.
 
+#![tactic(auto)]
+
 pub mod laws;
 pub mod make;
 pub mod placing;

@@ -8,6 +8,8 @@
 // What a shape covers is defined in `specs/Flashes.antt`, in whole numbers. The tests work in whole numbers too.
 // `laws` states what follows from the definitions.
 
+#![tactic(auto)]
+
 pub mod flash_shapes;
 pub mod flashes;
 pub mod laws;

@@ -9,6 +9,8 @@
 // Sums and products of coordinates fit 64 bits for any places; the squares of products take 128 bits.
 // `laws` states what follows from the definitions.
 
+#![tactic(auto)]
+
 pub mod arc_shape;
 pub mod laws;
 pub mod measures;

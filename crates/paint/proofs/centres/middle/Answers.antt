@@ -6,14 +6,14 @@ use borrow.Author.Differences.{ints}
 small : (c : goal.Start) → c.args.pitch * c.args.n ≤ 60000
 small c = small_middle c.args.pitch c.args.n c.args.count c.requires.0 c.requires.1
 
-pub overflow-mul-result : goal.overflow-mul-result
-overflow-mul-result c = omega (arith, small c)
+pub overflow_mul-result : goal.overflow_mul-result
+overflow_mul-result c = omega (arith, small c)
 
-pub overflow-add-result : goal.overflow-add-result
-overflow-add-result c = omega (arith, small c)
+pub overflow_add-result : goal.overflow_add-result
+overflow_add-result c = omega (arith, small c)
 
-pub overflow-cast-result : goal.overflow-cast-result
-overflow-cast-result c = omega (arith, small c)
+pub overflow_cast-result : goal.overflow_cast-result
+overflow_cast-result c = omega (arith, small c)
 
 pub returns : goal.returns
 returns c = omega (arith, ints, small c)

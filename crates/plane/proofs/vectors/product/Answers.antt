@@ -3,8 +3,8 @@ use Rattle.std.proofs.lemmas.Int.{to_z-of_z}
 use Rattle.plane.proofs.Sizes.{product_size, product_fits}
 use Rattle.plane.proofs.vectors.product.Goals as goal
 
-pub overflow-mul-result : goal.overflow-mul-result
-overflow-mul-result c = let f = product_fits c.args.a c.args.b c.requires.0 c.requires.1 in search (rules, to_z-of_z)
+pub overflow_mul-result : goal.overflow_mul-result
+overflow_mul-result c = let f = product_fits c.args.a c.args.b c.requires.0 c.requires.1 in search (rules, to_z-of_z)
 
 pub returns : goal.returns
 returns c =
