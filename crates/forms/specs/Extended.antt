@@ -1,13 +1,12 @@
-use Rattle.std.specs.Prelude.{◌≡◌, ℕ, suc, ◌+◌, ◌-◌, Bool, true, false, cond, not, ◌&&◌, ◌||◌, List, [], ◌∷◌, length, Some, None, codes, Option, ◌==◌, nat_le, nat_lt, slice_index}
+use Rattle.std.specs.Prelude.{ℕ, suc, ◌+◌, ◌-◌, Bool, true, false, cond, ◌&&◌, ◌||◌, List, [], ◌∷◌, length, Some, None, codes, Option, ◌==◌, nat_le, nat_lt, slice_index}
 use Rattle.std.specs.List.{between}
 use Rattle.std.specs.Option as options
 use Rattle.ticks.specs.declared.Unit.TheVariants.{Millimetre, Inch}
 use Rattle.ticks.specs.declared.Decimals.{Decimals}
 use Rattle.ticks.specs.declared.Decimals.TheVariants.{Four, Five, Six}
 use Rattle.numerals.specs.Numerals.{code_number, count_number, size_millionths}
-use Rattle.words.specs.declared.Part.{Part}
-use Rattle.words.specs.Words.{Piece, piece}
-use Rattle.forms.specs.Numbers.{Then, Valued, after, past, leads, seen_size}
+use Rattle.words.specs.Words.{Piece}
+use Rattle.forms.specs.Numbers.{Valued, after, past, seen_size}
 use Rattle.forms.specs.Orders.{Order, format, unit, circle, rectangle, obround, block_open, block_close, repeat_open, repeat_close, polarity, mirror, attribute}
 use Rattle.forms.specs.declared.Size.{Size}
 use Rattle.forms.specs.declared.Format.{Format}

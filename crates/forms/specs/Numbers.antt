@@ -1,4 +1,4 @@
-use Rattle.std.specs.Prelude.{◌≡◌, ℕ, suc, ◌+◌, ◌-◌, Bool, true, false, cond, not, ◌&&◌, ◌||◌, List, [], ◌∷◌, length, ℤ, Some, None, codes, Option, ◌==◌, nat_le, slice_index}
+use Rattle.std.specs.Prelude.{ℕ, ◌+◌, Bool, cond, ◌&&◌, ◌||◌, List, length, ℤ, Some, None, Option, ◌==◌, nat_le, slice_index}
 use Rattle.std.specs.List.{prefix_len, between}
 use Rattle.std.specs.Option as options
 use Rattle.words.specs.declared.Part.{Part}

@@ -1,4 +1,4 @@
-use Rattle.std.specs.Prelude.{◌≡◌, ℕ, suc, ◌+◌, ◌-◌, Bool, true, false, cond, not, ◌&&◌, ◌||◌, eqb, ltb, leb, List, [], ◌∷◌, length, get_or, take, drop, ℤ, Some, None, codes, Option}
+use Rattle.std.specs.Prelude.{ℕ, Bool, cond, not, ◌&&◌, List, ℤ, Some, None, codes, Option}
 use Rattle.std.specs.Option as options
 use Rattle.numerals.specs.Numerals.{code_number, coordinate_value}
 use Rattle.words.specs.declared.Part.{Part}

@@ -8,6 +8,9 @@
 // beside each numeral its value. Nothing is copied.
 //
 // specs/Extended.antt and specs/Plain.antt have the forms one by one, specs/Forms.antt joins them.
+
+#![tactic(auto)]
+
 ghost use Rattle.std.specs.Prelude.{◌≡◌, ◌+◌, ◌^◌, ◌<◌, ◌≤◌, length};
 ghost use Rattle.forms.specs.Forms.{form_of, within};
 ghost use Rattle.forms.specs.Orders.{seen_option};

@@ -2,13 +2,13 @@ use Rattle.std.proofs.Common.{rules}
 use Rattle.forms.specs.Extended.{block_of}
 use Rattle.forms.proofs.extended.block.Goals as goal
 
-pub returns-then-is-empty : goal.returns-then-is-empty
+pub returns-then-is_empty : goal.returns-then-is_empty
 unfolding block_of
-returns-then-is-empty c = search rules
+returns-then-is_empty c = search rules
 
-pub returns-in-err-code : goal.returns-in-err-code
+pub returns-in_err-code : goal.returns-in_err-code
 unfolding block_of
-returns-in-err-code c = search rules
+returns-in_err-code c = search rules
 
 pub returns : goal.returns
 unfolding block_of

@@ -46,6 +46,6 @@ pub returns-in-84-4 : goal.returns-in-84-4
 unfolding extended_of
 returns-in-84-4 c = search rules
 
-pub returns-in-default : goal.returns-in-default
+pub returns-in_default : goal.returns-in_default
 unfolding extended_of
-returns-in-default c = search rules
+returns-in_default c = search rules

@@ -2,22 +2,22 @@ use Rattle.std.proofs.Common.{rules}
 use Rattle.forms.specs.Extended.{mirror_of}
 use Rattle.forms.proofs.extended.mirror.Goals as goal
 
-pub returns-in-78 : goal.returns-in-78
+pub returns-in-N : goal.returns-in-N
 unfolding mirror_of
-returns-in-78 c = search rules
+returns-in-N c = search rules
 
-pub returns-in-88 : goal.returns-in-88
+pub returns-in-X : goal.returns-in-X
 unfolding mirror_of
-returns-in-88 c = search rules
+returns-in-X c = search rules
 
-pub returns-in-89 : goal.returns-in-89
+pub returns-in-Y : goal.returns-in-Y
 unfolding mirror_of
-returns-in-89 c = search rules
+returns-in-Y c = search rules
 
-pub returns-in-88-2 : goal.returns-in-88-2
+pub returns-in-XY : goal.returns-in-XY
 unfolding mirror_of
-returns-in-88-2 c = search rules
+returns-in-XY c = search rules
 
-pub returns-in-default : goal.returns-in-default
+pub returns-in_default : goal.returns-in_default
 unfolding mirror_of
-returns-in-default c = search rules
+returns-in_default c = search rules

@@ -2,14 +2,14 @@ use Rattle.std.proofs.Common.{rules}
 use Rattle.forms.specs.Extended.{polarity_of}
 use Rattle.forms.proofs.extended.polarity.Goals as goal
 
-pub returns-in-68 : goal.returns-in-68
+pub returns-in-D : goal.returns-in-D
 unfolding polarity_of
-returns-in-68 c = search rules
+returns-in-D c = search rules
 
-pub returns-in-67 : goal.returns-in-67
+pub returns-in-C : goal.returns-in-C
 unfolding polarity_of
-returns-in-67 c = search rules
+returns-in-C c = search rules
 
-pub returns-in-default : goal.returns-in-default
+pub returns-in_default : goal.returns-in_default
 unfolding polarity_of
-returns-in-default c = search rules
+returns-in_default c = search rules

@@ -2,18 +2,18 @@ use Rattle.std.proofs.Common.{rules}
 use Rattle.forms.specs.Extended.{sides_of}
 use Rattle.forms.proofs.extended.sides.Goals as goal
 
-pub returns-in-err-width : goal.returns-in-err-width
+pub returns-in_err-width : goal.returns-in_err-width
 unfolding sides_of
-returns-in-err-width c = search rules
+returns-in_err-width c = search rules
 
-pub returns-in-err-height : goal.returns-in-err-height
+pub returns-in_err-height : goal.returns-in_err-height
 unfolding sides_of
-returns-in-err-height c = search rules
+returns-in_err-height c = search rules
 
-pub returns-then-is-empty : goal.returns-then-is-empty
+pub returns-then-is_empty : goal.returns-then-is_empty
 unfolding sides_of
-returns-then-is-empty c = search rules
+returns-then-is_empty c = search rules
 
-pub returns-else-is-empty : goal.returns-else-is-empty
+pub returns-else-is_empty : goal.returns-else-is_empty
 unfolding sides_of
-returns-else-is-empty c = search rules
+returns-else-is_empty c = search rules

@@ -2,14 +2,14 @@ use Rattle.std.proofs.Common.{rules}
 use Rattle.forms.specs.Extended.{unit_of}
 use Rattle.forms.proofs.extended.unit.Goals as goal
 
-pub returns-in-77 : goal.returns-in-77
+pub returns-in-MM : goal.returns-in-MM
 unfolding unit_of
-returns-in-77 c = search rules
+returns-in-MM c = search rules
 
-pub returns-in-73 : goal.returns-in-73
+pub returns-in-IN : goal.returns-in-IN
 unfolding unit_of
-returns-in-73 c = search rules
+returns-in-IN c = search rules
 
-pub returns-in-default : goal.returns-in-default
+pub returns-in_default : goal.returns-in_default
 unfolding unit_of
-returns-in-default c = search rules
+returns-in_default c = search rules

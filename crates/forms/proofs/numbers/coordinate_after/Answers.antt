@@ -2,13 +2,13 @@ use Rattle.std.proofs.Common.{rules}
 use Rattle.forms.specs.Numbers.{after}
 use Rattle.forms.proofs.numbers.coordinate_after.Goals as goal
 
-pub returns-in-err-part : goal.returns-in-err-part
+pub returns-in_err-part : goal.returns-in_err-part
 unfolding after
-returns-in-err-part c = search rules
+returns-in_err-part c = search rules
 
-pub returns-in-err-value : goal.returns-in-err-value
+pub returns-in_err-value : goal.returns-in_err-value
 unfolding after
-returns-in-err-value c = search rules
+returns-in_err-value c = search rules
 
 pub returns : goal.returns
 unfolding after

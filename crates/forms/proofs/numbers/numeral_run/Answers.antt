@@ -1,13 +1,13 @@
-use Rattle.std.proofs.Common.{sym, ◌∙◌, arith, rules}
+use Rattle.std.proofs.Common.{sym, arith}
 use Rattle.std.proofs.lemmas.List.Sums.{prefix_len-drop_yes, prefix_len-drop_no, prefix_len-drop_all}
 use Rattle.forms.specs.Numbers.{is_numeral}
 use Rattle.forms.proofs.numbers.numeral_run.Goals as goal
 
 pub loop-i-preserved : goal.loop-i-preserved
-loop-i-preserved c = (omega (arith, prefix_len-drop_yes is_numeral c.args.text.now c.loop-i.i 0 (omega arith) (sym c.if-is-numeral.ensures)), omega arith)
+loop-i-preserved c = (omega (arith, prefix_len-drop_yes is_numeral c.args.text.now c.loop-i.i 0 (omega arith) (sym c.if-is_numeral.ensures)), omega arith)
 
-pub returns-else-is-numeral : goal.returns-else-is-numeral
-returns-else-is-numeral c = record { value = omega (arith, prefix_len-drop_no is_numeral c.args.text.now c.loop-i.i 0 (omega arith) (sym c.if-is-numeral.ensures)); bound = omega arith }
+pub returns-else-is_numeral : goal.returns-else-is_numeral
+returns-else-is_numeral c = record { value = omega (arith, prefix_len-drop_no is_numeral c.args.text.now c.loop-i.i 0 (omega arith) (sym c.if-is_numeral.ensures)); bound = omega arith }
 
 pub returns-after-loop-i : goal.returns-after-loop-i
 returns-after-loop-i c = record { value = omega (arith, prefix_len-drop_all is_numeral c.args.text.now c.loop-i.i (omega arith)); bound = omega arith }

@@ -6,9 +6,9 @@ pub returns-then-not-begins : goal.returns-then-not-begins
 unfolding maybe_after
 returns-then-not-begins c = search rules
 
-pub returns-in-err-coordinate : goal.returns-in-err-coordinate
+pub returns-in_err-coordinate : goal.returns-in_err-coordinate
 unfolding maybe_after
-returns-in-err-coordinate c = search rules
+returns-in_err-coordinate c = search rules
 
 pub returns : goal.returns
 unfolding maybe_after
