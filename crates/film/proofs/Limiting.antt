@@ -1,12 +1,12 @@
 -- The limits as facts, and facts as the limits.
-use Rattle.std.proofs.Common.{◌≡◌, ℕ, ◌+◌, ◌-◌, ◌*◌, ◌/◌, ◌%◌, ◌<◌, ◌≤◌, Bool, true, ◌&&◌, eqb, leb, ℤ, pos, negsuc, ◌+ℤ◌, ◌≤ℤ◌, refl, arith}
+use Rattle.std.proofs.Common.{◌≡◌, ℕ, ◌+◌, ◌-◌, ◌*◌, ◌/◌, ◌%◌, ◌≤◌, true, ◌&&◌, ℤ, pos, ◌+ℤ◌, ◌≤ℤ◌, refl, arith}
 use lib.Signed.{le_z}
 use Rattle.std.proofs.lemmas.Nat.{mul-le}
-use Rattle.std.proofs.lemmas.Bool.{and_parts, and_from, leb-true, le-leb, eqb-true, eq-eqb}
+use Rattle.std.proofs.lemmas.Bool.{and_parts, and_from, le-leb, eq-eqb}
 use Rattle.std.proofs.lemmas.Int.{ints}
 use Rattle.std.proofs.lemmas.Bool.Decides.{nat_tests}
 use Rattle.film.specs.Made.{centred}
-use Rattle.film.specs.Frame.{Frame, Limits, sized, in_limits, centre_x, centre_y, lowest, highest, EveryCentre}
+use Rattle.film.specs.Frame.{Frame, Limits, sized, in_limits, lowest, highest, EveryCentre}
 
 -- a test of two signed numbers, as a fact
 le_z_true : (a b : ℤ) → le_z a b ≡ true → a ≤ℤ b

@@ -1,5 +1,5 @@
 -- Numbers and windows as the code holds them.
-use Rattle.std.specs.Prelude.{◌≡◌, ℕ, ◌+◌, ◌-◌, ◌*◌, ◌/◌, Bool, true, false, cond, ◌&&◌, ℤ, pos, ◌+ℤ◌, Result, MatchResult, int_le, nat_le}
+use Rattle.std.specs.Prelude.{◌≡◌, ℕ, ◌+◌, ◌-◌, ◌*◌, ◌/◌, Bool, true, false, ◌&&◌, ℤ, pos, ◌+ℤ◌, Result, MatchResult, int_le, nat_le}
 use Rattle.film.specs.declared.numbers.Numbers.{Numbers}
 use Rattle.film.specs.declared.window.Window.{Window}
 use Rattle.film.specs.declared.fault.FilmFault.{FilmFault}

@@ -6,6 +6,8 @@
 // pack one row into bitmap bytes. Its meaning is the numbers and, for each pixel, dark or clear.
 // `Window` is a part of a film; `FilmFault` says why a call on a film is refused.
 // Films with memory of their own, and films over films, are in other crates.
+#![tactic(auto)]
+
 pub mod fault;
 pub mod film;
 pub mod limits;

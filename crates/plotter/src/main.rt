@@ -4,6 +4,8 @@
 // `--testcard=FILM --size=W,H [--pitch=P]` draws a test card and writes it as a PBM sheet.
 // A refused file, an unknown option or a file that cannot be read or written is told on standard
 // error, and the program ends with status 1.
+#![tactic(auto)]
+
 mod card;
 mod listing;
 mod position;
@@ -12,6 +14,7 @@ mod wording;
 use card::expose_card;
 use listing::list_commands;
 use std::alloc::AllocError;
+use std::process::ExitCode;
 use std::{env, io};
 
 // What ends the program early.
@@ -137,10 +140,14 @@ fn run(rt: &HostRuntime) -> Result<(), Stop> {
     finish(rt, &wanted)
 }
 
-fn main(rt: HostRuntime) -> Result<(), Stop> {
-    let done = run(&rt);
-    if let Err(Stop::Memory) = &done {
-        eprintln!(rt; "plotter: there is not enough memory")?;
+fn main(rt: HostRuntime) -> ExitCode {
+    match run(&rt) {
+        Ok(()) => ExitCode::SUCCESS,
+        Err(Stop::Memory) => {
+            // the status tells of it where this cannot be written
+            let _ = eprintln!(rt; "plotter: there is not enough memory");
+            ExitCode::FAILURE
+        }
+        Err(_) => ExitCode::FAILURE,
     }
-    done
 }

@@ -1,7 +1,7 @@
-use Rattle.std.proofs.Common.{◌≡◌, ℕ, ◌+◌, ◌-◌, ◌≤◌, List, [], ◌∷◌, ◌++◌, length, take, drop, sym, refl, ap, ◌∙◌, subst, arith}
-use Rattle.std.proofs.lemmas.List.{length-take-le, take-append-drop, drop-drop, length-append}
+use Rattle.std.proofs.Common.{◌≡◌, ◌+◌, ◌-◌, ◌++◌, length, drop, sym, refl, ap, ◌∙◌, subst, arith}
+use Rattle.std.proofs.lemmas.List.{length-take-le, take-append-drop, drop-drop}
 use Rattle.table.specs.declared.Table.{Table}
-use Rattle.table.specs.Tables.{records, room, Kept}
+use Rattle.table.specs.Tables.{records, Kept}
 
 pub records_len : {X : Type 0} (t : Table X) → length (records t) ≡ t.len
 records_len t = length-take-le t.len t.slots.now t.within

@@ -1,4 +1,4 @@
-use Rattle.std.specs.Prelude.{◌≡◌, ℕ, ◌≤◌, min, Bool, true, false, cond, List, [], ◌∷◌, ◌++◌, length, take, drop, Ok, Err, Result, nat_lt}
+use Rattle.std.specs.Prelude.{◌≡◌, ℕ, ◌≤◌, min, Bool, true, false, List, [], ◌∷◌, ◌++◌, length, take, drop, Ok, Err, Result, nat_lt}
 use Rattle.table.specs.declared.Full.{Full}
 use Rattle.table.specs.declared.Table.{Table}
 
@@ -12,7 +12,7 @@ room t = min t.limit (length t.slots.now)
 
 -- A table over the same slots and with the same limit, whose slots past its records are as they were.
 pub record Kept {X : Type 0} (old new : Table X) : Type 0 where
-  pub lent : new.slots.name ≡ old.slots.name
+  pub lent : new.slots.ghost_name ≡ old.slots.ghost_name
   pub limit : new.limit ≡ old.limit
   pub size : length new.slots.now ≡ length old.slots.now
   pub more : old.len ≤ new.len

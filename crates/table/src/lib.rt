@@ -7,6 +7,8 @@
 //
 // It is generic in the record and proved once: apertures, objects and contour pieces each have one.
 // specs/Tables.antt has what a table holds.
+#![tactic(auto)]
+
 ghost use Rattle.std.specs.Prelude.{◌≤◌, length};
 
 mod methods;

@@ -6,9 +6,9 @@ use Rattle.records.specs.Records.{seen_aperture, seen_object, seen_piece}
 use Rattle.std.proofs.lemmas.Result.{err_from_is_err_and}
 use Rattle.std.proofs.Common.{map, Err, sym, ap, ◌∙◌, rules}
 
-pub returns-then-not-is-short : goal.returns-then-not-is-short
-returns-then-not-is-short c =
-    let w = too_long c.args.file.now c.args.apertures.now c.args.objects.now c.args.pieces.now (sym c.if-not-is-short.ensures) in
+pub returns-then-not-is_short : goal.returns-then-not-is_short
+returns-then-not-is_short c =
+    let w = too_long c.args.file.now c.args.apertures.now c.args.objects.now c.args.pieces.now (sym c.if-not-is_short.ensures) in
     record {
       answer = ap answer w;
       apertures = ap (λ (u : Outcome). stored u.books.apertures (map seen_aperture c.args.apertures.now)) w;
@@ -16,13 +16,13 @@ returns-then-not-is-short c =
       pieces = ap (λ (u : Outcome). stored u.books.pieces (map seen_piece c.args.pieces.now)) w;
     }
 
-pub returns-in-err-laid : goal.returns-in-err-laid
-returns-in-err-laid c =
-    let e = c.in-err-laid.ensures in
-    let s = sym c.if-not-is-short.ensures in
-    let a = c.aperture-table-a.ensures in
-    let o = c.object-table-o.ensures in
-    let p = c.piece-table-p.ensures in
+pub returns-in_err-laid : goal.returns-in_err-laid
+returns-in_err-laid c =
+    let e = c.in_err-laid.ensures in
+    let s = sym c.if-not-is_short.ensures in
+    let a = c.aperture_table-a.ensures in
+    let o = c.object_table-o.ensures in
+    let p = c.piece_table-p.ensures in
     let x = err_from_is_err_and c.from-residual.result c.from-residual.ensures.1 in
     let w = slots_hold c.args.file.now c.args.apertures.now c.args.objects.now c.args.pieces.now _ _ _ a.fresh o.fresh p.fresh s _ _ _ _ e in
     let la = e.kept.apertures.lent ∙ a.lent in
@@ -37,11 +37,11 @@ returns-in-err-laid c =
 
 pub returns : goal.returns
 returns c =
-    let e = c.in-ok-laid.ensures in
-    let s = sym c.if-not-is-short.ensures in
-    let a = c.aperture-table-a.ensures in
-    let o = c.object-table-o.ensures in
-    let p = c.piece-table-p.ensures in
+    let e = c.in_ok-laid.ensures in
+    let s = sym c.if-not-is_short.ensures in
+    let a = c.aperture_table-a.ensures in
+    let o = c.object_table-o.ensures in
+    let p = c.piece_table-p.ensures in
     let w = slots_hold c.args.file.now c.args.apertures.now c.args.objects.now c.args.pieces.now _ _ _ a.fresh o.fresh p.fresh s _ _ _ _ e in
     let la = e.kept.apertures.lent ∙ a.lent in
     let lo = e.kept.objects.lent ∙ o.lent in

@@ -3,4 +3,4 @@ use Rattle.drawing.proofs.running.command_at.Goals as goal
 
 pub returns : goal.returns
 unfolding command_at
-returns c = record { value = c.next-command.ensures.value; goes = c.next-command.ensures.moves }
+returns c = record { value = c.next_command.ensures.value; goes = c.next_command.ensures.moves }

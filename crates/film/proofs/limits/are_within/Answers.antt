@@ -13,13 +13,13 @@ second a b d x y = rw x (rw y)
 third : (r a b d : Bool) → r ≡ d → a ≡ true → b ≡ true → r ≡ (a && (b && d))
 third r a b d e x y = rw x (rw y e)
 
-pub returns-then-not-is-sized : goal.returns-then-not-is-sized
-returns-then-not-is-sized c =
+pub returns-then-not-is_sized : goal.returns-then-not-is_sized
+returns-then-not-is_sized c =
     let s : sized c.args.width c.args.height c.args.pitch ≡ false = search rules in
     first _ _ s ∙ sym (limits_is (framed c.args.width c.args.height c.args.pitch c.args.ox c.args.oy))
 
-pub returns-then-not-is-centred : goal.returns-then-not-is-centred
-returns-then-not-is-centred c =
+pub returns-then-not-is_centred : goal.returns-then-not-is_centred
+returns-then-not-is_centred c =
     let s : sized c.args.width c.args.height c.args.pitch ≡ true = search rules in
     let x : centred c.args.ox c.args.pitch c.args.width ≡ false = search rules in
     second _ _ _ s x ∙ sym (limits_is (framed c.args.width c.args.height c.args.pitch c.args.ox c.args.oy))
@@ -28,5 +28,5 @@ pub returns : goal.returns
 returns c =
     let s : sized c.args.width c.args.height c.args.pitch ≡ true = search rules in
     let x : centred c.args.ox c.args.pitch c.args.width ≡ true = search rules in
-    let y : c.is-centred-2.result ≡ centred c.args.oy c.args.pitch c.args.height = search rules in
+    let y : c.is_centred-2.result ≡ centred c.args.oy c.args.pitch c.args.height = search rules in
     third _ _ _ _ y s x ∙ sym (limits_is (framed c.args.width c.args.height c.args.pitch c.args.ox c.args.oy))

@@ -8,4 +8,4 @@ returns-then-first-objects c = sym (front_past (λ o. is_repeat c.args.repeat.fi
 
 pub returns : goal.returns
 returns c =
-    front_part (λ o. is_repeat c.args.repeat.first o.owner) c.args.objects.now c.args.repeat.first c.group-end-end.result c.group-end-end.ensures.value
+    front_part (λ o. is_repeat c.args.repeat.first o.owner) c.args.objects.now c.args.repeat.first c.group_end-end.result c.group_end-end.ensures.value

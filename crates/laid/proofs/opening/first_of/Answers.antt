@@ -9,5 +9,5 @@ returns-then-number-apertures c = sym (ap first_in (figure_past c.args.apertures
 
 pub returns : goal.returns
 returns c =
-    c.first-in.ensures
+    c.first_in.ensures
     ∙ ap first_in (figure_read c.args.apertures.now c.args.number c.index-apertures-number.result (omega arith) c.index-apertures-number.is)

@@ -6,4 +6,4 @@ use Rattle.std.proofs.Common.{refl}
 pub returns : goal.returns
 returns c =
     let d = c.args.drawing.now in
-    opens_frame (apertures_of d) (objects_of d) c.args.within c.args.placed c.args.flash c.requires.flash _ c.in-Some.ensures refl c.compose.ensures.put c.compose.ensures.level c.turned-by.ensures
+    opens_frame (apertures_of d) (objects_of d) c.args.within c.args.placed c.args.flash c.requires.flash _ c.in-Some.ensures refl c.compose.ensures.put c.compose.ensures.level c.turned_by.ensures

@@ -2,11 +2,11 @@ use Rattle.laying.proofs.Leaves.{lays_none, lays_same}
 use Rattle.laying.proofs.Orders.{copy_is, no_copy}
 use Rattle.laying.proofs.layers.lay_copy.Goals as goal
 
-pub returns-in-default : goal.returns-in-default
-returns-in-default g c =
-    lays_same c.args.window (no_copy c.args.drawing.now c.args.repeat c.args.a c.args.b c.in-default.ensures) (lays_none c.args.window _ _)
+pub returns-in_default : goal.returns-in_default
+returns-in_default g c =
+    lays_same c.args.window (no_copy c.args.drawing.now c.args.repeat c.args.a c.args.b c.in_default.ensures) (lays_none c.args.window _ _)
 
 pub returns : goal.returns
 returns g c =
     lays_same c.args.window (copy_is c.args.drawing.now c.args.repeat c.args.a c.args.b c.in-Some.shift c.group.result.now c.in-Some.ensures c.group.ensures)
-    c.lay-group.ensures
+    c.lay_group.ensures

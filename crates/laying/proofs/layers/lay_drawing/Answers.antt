@@ -8,8 +8,8 @@ loop-i-init g c = ((λ n b p. lays_same c.args.window (from_start_lem c.args.dra
 
 pub loop-i-preserved : goal.loop-i-preserved
 loop-i-preserved g c = (
-  leads_more c.args.window c.loop-i.invariant.0 (from_more c.args.drawing.now c.loop-i.i c.index-objects-i.result (omega arith) c.index-objects-i.is) c.lay-owned.ensures,
-  lays_window c.args.window c.lay-owned.ensures c.loop-i.invariant.1,
+  leads_more c.args.window c.loop-i.invariant.0 (from_more c.args.drawing.now c.loop-i.i c.index-objects-i.result (omega arith) c.index-objects-i.is) c.lay_owned.ensures,
+  lays_window c.args.window c.lay_owned.ensures c.loop-i.invariant.1,
 )
 
 pub returns : goal.returns

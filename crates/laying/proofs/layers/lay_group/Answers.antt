@@ -9,8 +9,8 @@ loop-object-init g c = (leads_start c.args.window _ _ _, c.requires)
 pub loop-object-preserved : goal.loop-object-preserved
 loop-object-preserved g c = (
   leads_more c.args.window c.loop-object.invariant.0
-      (group_more c.args.drawing.now c.args.shift c.args.objects.now c.loop-object.object-index c.object-item.result (omega arith) c.object-item.is) c.lay-moved.ensures,
-  lays_window c.args.window c.lay-moved.ensures c.loop-object.invariant.1,
+      (group_more c.args.drawing.now c.args.shift c.args.objects.now c.loop-object.object-index c.object-item.result (omega arith) c.object-item.is) c.lay_moved.ensures,
+  lays_window c.args.window c.lay_moved.ensures c.loop-object.invariant.1,
 )
 
 pub returns : goal.returns

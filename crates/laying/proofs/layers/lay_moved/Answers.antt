@@ -6,12 +6,12 @@ use Rattle.std.proofs.Common.{sym}
 
 pub loop-window-preserved : goal.loop-window-preserved
 loop-window-preserved g c = (
-  leads_more c.args.window c.loop-window.invariant.0 c.turn-given.ensures.lays c.lay-given-in-loop-window.ensures,
-  lays_window c.args.window c.lay-given-in-loop-window.ensures c.loop-window.invariant.1,
+  leads_more c.args.window c.loop-window.invariant.0 c.turn-given.ensures.lays c.lay_given-in-loop-window.ensures,
+  lays_window c.args.window c.lay_given-in-loop-window.ensures c.loop-window.invariant.1,
 )
 
 pub returns : goal.returns
 unfolding moved_object
 returns g c =
     lays_same c.args.window (sym (c.begin-begun.ensures.lays c.new-stack.ensures))
-    (lays_after c.args.window c.lay-given.ensures (leads_end c.args.window c.loop-window.invariant.0 (idle_left c.args.drawing.now c.loop-window.stack c.loop-window-test.ensures)))
+    (lays_after c.args.window c.lay_given.ensures (leads_end c.args.window c.loop-window.invariant.0 (idle_left c.args.drawing.now c.loop-window.stack c.loop-window-test.ensures)))

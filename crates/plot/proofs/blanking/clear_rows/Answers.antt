@@ -9,7 +9,7 @@ loop-row-init g c = (cleared_none _ _, refl)
 pub loop-row-preserved : goal.loop-row-preserved
 loop-row-preserved g c =
     let inv = c.loop-row.invariant in
-    (cleared_more (frame_of c.args.n) c.requires inv.0 (omega arith) (omega arith) c.write-span.ensures.written, c.write-span.ensures.beside ∙ inv.1)
+    (cleared_more (frame_of c.args.n) c.requires inv.0 (omega arith) (omega arith) c.write_span.ensures.written, c.write_span.ensures.beside ∙ inv.1)
 
 pub returns : goal.returns
 returns g c =

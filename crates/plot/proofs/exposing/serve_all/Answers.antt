@@ -16,12 +16,12 @@ loop-request-preserved g c =
     let now = c.loop-request in
     let at = c.args in (
       serving_more (g.F.Film.meaning at.film.now) (tables_of at.apertures.now at.objects.now at.pieces.now) at.requests.now
-          now.request-index (vec_items now.answers) (vec_items c.push-reserved.new.self) _ c.serve.result inv.0 c.loop-request-test.true
+          now.request-index (vec_items now.answers) (vec_items c.push_reserved.new.self) _ c.serve.result inv.0 c.loop-request-test.true
           (same_slots now.apertures at.apertures.now now.objects at.objects.now now.pieces at.pieces.now now.auto.apertures now.auto.objects now.auto.pieces)
-          c.serve.ensures.served c.push-reserved.ensures.items,
+          c.serve.ensures.served c.push_reserved.ensures.items,
       c.serve.ensures.beside ∙ inv.1,
-      omega (arith, c.push-reserved.ensures.len, inv.2),
-      omega (arith, c.push-reserved.ensures.capacity, inv.3),
+      omega (arith, c.push_reserved.ensures.len, inv.2),
+      omega (arith, c.push_reserved.ensures.capacity, inv.3),
     )
 
 pub returns : goal.returns

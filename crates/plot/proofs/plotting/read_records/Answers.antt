@@ -4,7 +4,7 @@ use Rattle.plot.proofs.plotting.read_records.Goals as goal
 
 pub returns : goal.returns
 returns c =
-    let done = c.read-drawing.ensures in
+    let done = c.read_drawing.ensures in
     recorded_by c.args.apertures.now c.args.objects.now c.args.pieces.now c.args.file.now
-    c.read-drawing.new.apertures c.read-drawing.new.objects c.read-drawing.new.pieces (told_plot c.read-drawing.result)
+    c.read_drawing.new.apertures c.read_drawing.new.objects c.read_drawing.new.pieces (told_plot c.read_drawing.result)
     done.answer done.apertures done.objects done.pieces

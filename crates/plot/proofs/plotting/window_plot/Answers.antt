@@ -5,24 +5,24 @@ use Rattle.std.proofs.lemmas.Result.{err_from_is_err_and}
 use Rattle.std.proofs.lemmas.Bool.{false≢true}
 use Rattle.std.proofs.Common.{refl}
 
-pub lay-records-requires : goal.lay-records-requires
-lay-records-requires g c =
+pub lay_records-requires : goal.lay_records-requires
+lay_records-requires g c =
     recorded_ready (g.F.Film.meaning c.args.film.now).frame (tables_of c.args.apertures.now c.args.objects.now c.args.pieces.now) c.args.window c.args.file.now
-    c.in-ok-drawing.drawing c.read-within.new.apertures c.read-within.new.objects c.read-within.new.pieces c.in-ok-drawing.ensures
+    c.in_ok-drawing.drawing c.read_within.new.apertures c.read_within.new.objects c.read_within.new.pieces c.in_ok-drawing.ensures
 
 pub returns : goal.returns
 returns g c =
     record {
       plotted = plotted_accepted (g.F.Film.meaning c.args.film.now) (tables_of c.args.apertures.now c.args.objects.now c.args.pieces.now) c.args.window c.args.file.now
-          c.in-ok-drawing.drawing c.read-within.new.apertures c.read-within.new.objects c.read-within.new.pieces
-          c.in-ok-drawing.ensures c.lay-records.ensures.laid c.numbers-of.ensures;
+          c.in_ok-drawing.drawing c.read_within.new.apertures c.read_within.new.objects c.read_within.new.pieces
+          c.in_ok-drawing.ensures c.lay_records.ensures.laid c.numbers_of.ensures;
       refused-unchanged = λ e. absurd (false≢true e);
-      beside = c.lay-records.ensures.beside;
+      beside = c.lay_records.ensures.beside;
     }
 
-pub returns-in-err-drawing : goal.returns-in-err-drawing
-returns-in-err-drawing g c =
+pub returns-in_err-drawing : goal.returns-in_err-drawing
+returns-in_err-drawing g c =
     let p = err_from_is_err_and c.from-residual.result c.from-residual.ensures.1 in
     let refused = plotted_refused (g.F.Film.meaning c.args.film.now) (tables_of c.args.apertures.now c.args.objects.now c.args.pieces.now)
-    (tables_of c.read-within.new.apertures c.read-within.new.objects c.read-within.new.pieces) c.args.window c.args.file.now c.in-err-drawing.ensures in
+    (tables_of c.read_within.new.apertures c.read_within.new.objects c.read_within.new.pieces) c.args.window c.args.file.now c.in_err-drawing.ensures in
     rw (p.1, p.2) (record { plotted = refused; refused-unchanged = λ e. refl {a = c.args.film.now}; beside = refl {a = g.F.Film.beside c.args.film.now} })

@@ -6,4 +6,4 @@ pub returns-then-first-objects : goal.returns-then-first-objects
 returns-then-first-objects c = no_part c.args.objects.now c.args.number c.args.first (omega arith)
 
 pub returns : goal.returns
-returns c = owned_part c.args.objects.now c.args.number c.args.first c.part-end-end.result c.part-end-end.ensures.value
+returns c = owned_part c.args.objects.now c.args.number c.args.first c.part_end-end.result c.part_end-end.ensures.value

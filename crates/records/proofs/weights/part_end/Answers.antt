@@ -7,12 +7,12 @@ use Rattle.std.proofs.Common.{arith}
 
 pub loop-end-preserved : goal.loop-end-preserved
 loop-end-preserved c =
-    let m = front_more (λ o. owned_by c.args.number (seen_object o)) c.args.objects.now c.loop-end.end c.index-objects-end.result c.loop-end-test.true c.index-objects-end.is c.if-owned-by.ensures in
+    let m = front_more (λ o. owned_by c.args.number (seen_object o)) c.args.objects.now c.loop-end.end c.index-objects-end.result c.loop-end-test.true c.index-objects-end.is c.if-owned_by.ensures in
     (omega (arith, m, c.loop-end.invariant.0), omega arith)
 
-pub returns-else-owned-by : goal.returns-else-owned-by
-returns-else-owned-by c =
-    let m = front_stop (λ o. owned_by c.args.number (seen_object o)) c.args.objects.now c.loop-end.end c.index-objects-end.result c.loop-end-test.true c.index-objects-end.is c.if-owned-by.ensures in
+pub returns-else-owned_by : goal.returns-else-owned_by
+returns-else-owned_by c =
+    let m = front_stop (λ o. owned_by c.args.number (seen_object o)) c.args.objects.now c.loop-end.end c.index-objects-end.result c.loop-end-test.true c.index-objects-end.is c.if-owned_by.ensures in
     record { value = omega (arith, m, c.loop-end.invariant.0); bound = omega arith }
 
 pub returns-after-loop-end : goal.returns-after-loop-end

@@ -5,5 +5,5 @@ use Rattle.std.proofs.Common.{map, length, ◌∙◌}
 
 pub returns : goal.returns
 returns c k =
-    c.weigh-first.ensures k
-    ∙ all_weighed (map seen_aperture c.args.apertures.now) (map seen_object c.args.objects.now) (length c.args.apertures.now) c.weighed-count.result k c.weighed-count.ensures
+    c.weigh_first.ensures k
+    ∙ all_weighed (map seen_aperture c.args.apertures.now) (map seen_object c.args.objects.now) (length c.args.apertures.now) c.weighed_count.result k c.weighed_count.ensures

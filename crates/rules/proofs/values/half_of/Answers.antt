@@ -3,4 +3,4 @@ use Rattle.rules.specs.Rules.{half_of}
 
 pub returns : goal.returns
 unfolding half_of
-returns c = c.half-ticks.ensures.value
+returns c = c.half_ticks.ensures.value

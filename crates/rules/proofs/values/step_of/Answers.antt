@@ -3,4 +3,4 @@ use Rattle.rules.specs.Rules.{step_of}
 
 pub returns : goal.returns
 unfolding step_of
-returns c = c.step-ticks.ensures.value
+returns c = c.step_ticks.ensures.value

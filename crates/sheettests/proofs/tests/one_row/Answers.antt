@@ -13,11 +13,11 @@ unreachable-requires g c =
     let o = open_size n.width 1 (length c.args.out.now) (sheet_of c.in-Ok.new) c.in-Ok.ensures.answer in
     let P : Sheet → Type 0 = Size n.width 1 in
     let a = subst P (sym c.in-Err.ensures.1) o.1 in
-    let b = row_size wide _ _ c.write-row.ensures.sheet a in
-    let d = row_size wide _ _ c.write-row-2.ensures.sheet b in
-    let e = row_size wide _ _ c.write-row-3.ensures.sheet d in
-    let f = row_size film _ _ c.write-row-4.ensures.sheet e in
-    row_ends n.width (sheet_of c.write-row-4.new.self) (sheet_of c.write-row-5.new.self) film (length c.write-row-4.new.out) c.write-row-5.ensures.sheet f
+    let b = row_size wide _ _ c.write_row.ensures.sheet a in
+    let d = row_size wide _ _ c.write_row-2.ensures.sheet b in
+    let e = row_size wide _ _ c.write_row-3.ensures.sheet d in
+    let f = row_size film _ _ c.write_row-4.ensures.sheet e in
+    row_ends n.width (sheet_of c.write_row-4.new.self) (sheet_of c.write_row-5.new.self) film (length c.write_row-4.new.out) c.write_row-5.ensures.sheet f
     (sym (ap (λ k. k.width) c.numbers-n.ensures))
     (omega (arith, (limits_of _ n.ok).tall, ap (λ k. k.height) c.numbers-n.ensures))
     (omega (arith, o.0))

@@ -1,9 +1,9 @@
-use Rattle.std.proofs.Common.{◌≡◌, ◌+◌, ◌<◌, true, ltb, length, Ok, sym, refl, ap, subst, arith}
+use Rattle.std.proofs.Common.{◌+◌, ◌<◌, length, Ok, sym, refl, ap, arith}
 use Rattle.std.proofs.lemmas.List.{drop-set-lt, length-set, take_more_set}
 use Rattle.std.proofs.lemmas.Bool.{lt-ltb}
 use Rattle.table.proofs.Laws.{records_len}
 use Rattle.table.proofs.Table.push.Goals as goal
-use Rattle.table.specs.Tables.{Outcome, records, room}
+use Rattle.table.specs.Tables.{records, room}
 
 pub returns : goal.returns
 returns g c =

@@ -1,4 +1,4 @@
-use Rattle.std.proofs.Common.{◌<◌, take, sym, ◌∙◌, arith}
+use Rattle.std.proofs.Common.{take, sym, ◌∙◌, arith}
 use Rattle.std.proofs.lemmas.List.{get_or-take, length-take-le}
 use Rattle.std.proofs.lemmas.Option.{slice_get_past, slice_get_read}
 use Rattle.table.proofs.methods.record_of.Goals as goal

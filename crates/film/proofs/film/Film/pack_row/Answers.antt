@@ -3,8 +3,8 @@ use Rattle.film.specs.Packed.{inked, byte_of, bytes_for}
 use Rattle.film.proofs.Packing.{room, read_inked, bit_more, byte_more, pack_answers, pack_ends}
 use Rattle.film.proofs.film.Film.pack_row.Goals as goal
 
-pub with-bit-byte-requires : goal.with-bit-byte-requires
-with-bit-byte-requires g c =
+pub with_bit-byte-requires : goal.with_bit-byte-requires
+with_bit-byte-requires g c =
     room (inked (g.Self.Film.meaning c.args.self.now) c.args.row) (8 * c.loop-k.k) c.loop-j.j c.loop-j.byte c.loop-j.invariant (omega arith)
 
 pub loop-j-preserved : goal.loop-j-preserved
@@ -12,8 +12,8 @@ loop-j-preserved g c =
     let m = g.Self.Film.meaning c.args.self.now in
     let e = ap (λ f. f.height) c.numbers-n.ensures in
     let h : c.args.row < m.frame.height = omega arith in
-    bit_more (inked m c.args.row) (8 * c.loop-k.k) c.loop-j.j c.loop-j.byte c.with-bit-byte.result c.is-dark.result
-    c.loop-j.invariant (read_inked m c.args.row (8 * c.loop-k.k + c.loop-j.j) _ c.is-dark.result c.is-dark.ensures c.read.ensures h) c.with-bit-byte.ensures
+    bit_more (inked m c.args.row) (8 * c.loop-k.k) c.loop-j.j c.loop-j.byte c.with_bit-byte.result c.is_dark.result
+    c.loop-j.invariant (read_inked m c.args.row (8 * c.loop-k.k + c.loop-j.j) _ c.is_dark.result c.is_dark.ensures c.read.ensures h) c.with_bit-byte.ensures
 
 pub loop-k-preserved : goal.loop-k-preserved
 unfolding byte_of
@@ -26,9 +26,9 @@ returns g c =
     let m = g.Self.Film.meaning c.args.self.now in
     let f = c.numbers-n.ensures in
     let e = ap (λ f. f.height) f in
-    let w = c.row-length-bytes.ensures.is ∙ ap (λ f. bytes_for f.width) f in
+    let w = c.row_length-bytes.ensures.is ∙ ap (λ f. bytes_for f.width) f in
     let h : c.args.row < m.frame.height = omega arith in
-    let k : c.loop-k.k ≡ c.row-length-bytes.result = omega arith in
+    let k : c.loop-k.k ≡ c.row_length-bytes.result = omega arith in
     let l : bytes_for m.frame.width ≤ length c.args.out.now = omega (arith, w) in
     record {
       answer = pack_answers m c.args.row (length c.args.out.now) h l;
