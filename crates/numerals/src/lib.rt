@@ -9,6 +9,8 @@
 // A size is counted in millionths of the unit, so that every size is a whole number.
 // The definitions that the promises cite stand in specs/Numerals.antt.
 
+#![tactic(auto)]
+
 ghost use Rattle.std.specs.Prelude.{◌≡◌, ℕ, ◌+◌, ◌-◌, ◌*◌, ◌^◌, ◌<◌, ◌≤◌, length, IfSome};
 ghost use Rattle.numerals.specs.Numerals.{is_digit, leads, digits_number, is_negative, after_sign, with_sign, digit_run, seen_decimal, split_point, CodesLieInRange, code_number, count_number, size_millionths, coordinate_value};
 

@@ -1,11 +1,9 @@
-use Rattle.std.proofs.Common.{◌≡◌, ℕ, zero, suc, ◌+◌, ◌-◌, ◌*◌, ◌/◌, ◌<◌, ◌≤◌, true, false, ℤ, pos, negsuc, ◌-ℤ◌, ◌*ℤ◌, neg_ℤ, nat_abs, sym, refl, ap, ◌∙◌, subst, mul-le-mul_right, mul_assoc, suc-mul, mul_comm, mul-le-mul_left, zero-mul, div-mul-le_self, mul_left_comm, arith}
+use Rattle.std.proofs.Common.{◌≡◌, ℕ, zero, suc, ◌+◌, ◌*◌, ◌<◌, ◌≤◌, true, false, ℤ, pos, negsuc, ◌-ℤ◌, ◌*ℤ◌, neg_ℤ, nat_abs, sym, refl, ap, ◌∙◌, subst, mul-le-mul_right, suc-mul, mul-le-mul_left, zero-mul, div-mul-le_self, mul_left_comm, arith}
 use Rattle.std.proofs.lemmas.Int.{ints}
 use Rattle.std.proofs.lemmas.Bool.{ltb-true}
-use Rattle.ticks.specs.Ticks.{Nearest, NearestIsOne, SignSymmetric, divisor, factor, nearest, nearest_z, to_ticks}
+use Rattle.ticks.specs.Ticks.{Nearest, NearestIsOne, SignSymmetric, divisor, factor, nearest, nearest_z}
 use Rattle.ticks.specs.declared.Decimals.TheVariants.{Five, Four, Six}
 use Rattle.ticks.specs.declared.Decimals.{Decimals}
-use Rattle.ticks.specs.declared.Unit.TheVariants.{Inch, Millimetre}
-use Rattle.ticks.specs.declared.Unit.{Unit as MeasureUnit}
 use lib.IntN.{neg_ℤ-neg_ℤ}
 use lib.Signed.{lt_z}
 use native.Mathlib.Nat.{div-eq_of_lt, lt-div-mul-add}

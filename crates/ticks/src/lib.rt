@@ -7,6 +7,9 @@
 //
 // The three functions take every number of their types, so none refuses. specs/Ticks.antt has
 // what each answers, and `Nearest`, the law that the answer is the nearest tick.
+
+#![tactic(auto)]
+
 ghost use Rattle.std.specs.Prelude.{◌≡◌, ◌+◌, ◌*◌, ◌^◌, ◌<◌, ◌≤◌, pos, ◌*ℤ◌};
 ghost use Rattle.ticks.specs.Ticks.{Nearest, NearestIsOne, SignSymmetric, divisor, factor, half_ticks, nearest, nearest_z, step_ticks, to_ticks};
 

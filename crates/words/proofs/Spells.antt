@@ -1,10 +1,9 @@
-use Rattle.std.proofs.Common.{◌≡◌, ℕ, suc, ◌+◌, ◌-◌, ◌<◌, ◌≤◌, Bool, true, false, cond, not, ◌&&◌, eqb, leb, List, [], ◌∷◌, ◌++◌, length, get_or, take, drop, Ok, Err, Result, sym, refl, ap, ◌∙◌, subst, append_assoc, one-add, arith, length-drop, take-append-drop, length-take, take_all, drop-drop}
+use Rattle.std.proofs.Common.{◌≡◌, ℕ, ◌+◌, ◌-◌, ◌<◌, ◌≤◌, Bool, true, false, cond, eqb, leb, List, [], ◌∷◌, ◌++◌, length, get_or, take, drop, Ok, Err, Result, sym, refl, ap, ◌∙◌, subst, append_assoc, one-add, arith, length-drop, take-append-drop, length-take, take_all, drop-drop}
 use Rattle.std.proofs.lemmas.List.{drop_more}
-use Rattle.std.proofs.lemmas.List.Sums.{prefix_len-le-length}
 use Rattle.std.proofs.lemmas.Bool.Decides.{nat_tests}
 use Rattle.std.specs.List.{between, prefix_len, AllByRecursion as All}
-use Rattle.words.specs.Spelling.{ClosedByGap, Content, Gap, Stand, WordsAreTheFile, Woven, spelled}
-use Rattle.words.specs.Words.{Piece, WordSeen, closing, content_end, extended_word, fault, is_content, is_gap, next_word, onward, plain_word, star_after, star_at, word_from, word_start}
+use Rattle.words.specs.Spelling.{ClosedByGap, Content, WordsAreTheFile, spelled}
+use Rattle.words.specs.Words.{WordSeen, content_end, extended_word, fault, is_content, is_gap, next_word, onward, plain_word, star_after, star_at, word_from, word_start}
 
 -- the front that passes a test has only bytes that pass it
 front_passes : (p : ℕ → Bool) (ys : List ℕ) → All (λ b. p b ≡ true) (take (prefix_len p ys) ys)

@@ -8,6 +8,9 @@
 // A refusal is a `TextFault`; it carries the place and how many commands were taken before it.
 // What a word is stands in specs/Words.antt, and in specs/Spelling.antt the law that the words,
 // with their marks and the gaps between them, are the file, byte for byte.
+
+#![tactic(auto)]
+
 ghost use Rattle.std.specs.Prelude.{◌≡◌, ℕ, ◌+◌, ◌<◌, ◌≤◌, length};
 ghost use Rattle.words.specs.Spelling.{ClosedByGap, WordsAreTheFile};
 ghost use Rattle.words.specs.Words.{Moves, closing, content_end, is_content, is_gap, next_word, seen_word, star_after, told_text, word_start};

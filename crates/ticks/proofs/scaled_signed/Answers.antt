@@ -2,7 +2,7 @@ use Rattle.std.proofs.lemmas.Int.{ints, to_z-of_z}
 use Rattle.ticks.proofs.Rounding.{nearest_law, signed_below}
 use Rattle.ticks.proofs.scaled_signed.Goals as goal
 use Rattle.ticks.specs.Ticks.{factor, nearest_z}
-use Rattle.std.proofs.Common.{◌≡◌, pos, ◌-ℤ◌, ◌*ℤ◌, arith, w64, to_z, of_z, rules}
+use Rattle.std.proofs.Common.{◌≡◌, pos, ◌-ℤ◌, ◌*ℤ◌, arith, w64, to_z, of_z}
 
 pub returns-then-v-lt0 : goal.returns-then-v-lt0
 returns-then-v-lt0 c =
