@@ -1,11 +1,11 @@
 -- Bytes whose bits are a row's.
-use Rattle.std.proofs.Common.{◌≡◌, ℕ, zero, suc, ◌+◌, ◌-◌, ◌*◌, ◌/◌, ◌%◌, ◌^◌, ◌<◌, ◌≤◌, Bool, true, false, cond, ◌&&◌, eqb, List, map, length, get_or, sym, refl, ap, ◌∙◌, arith}
+use Rattle.std.proofs.Common.{◌≡◌, ℕ, zero, suc, ◌+◌, ◌*◌, ◌/◌, ◌%◌, ◌<◌, Bool, true, cond, eqb, List, map, length, get_or, sym, refl, ap, ◌∙◌, arith}
 use Rattle.std.specs.List.{range_with_len}
 use Rattle.std.proofs.lemmas.List.FromFn.{fill_by_all}
 use Rattle.std.proofs.lemmas.Bool.{eqb-true}
 use Rattle.film.specs.Packed.{binary, byte_of}
 use Rattle.bits.specs.Bits.{bit_in, bit_of}
-use Rattle.bits.proofs.Masks.{upto, each}
+use Rattle.bits.proofs.Masks.{each}
 
 -- a byte is the number that its bits make
 self_made : (b : ℕ) → b < 256 → eqb b (binary (bit_in b) 0 8) ≡ true

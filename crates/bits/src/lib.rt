@@ -3,6 +3,8 @@
 // `bit_at` reads a bit, `fill_bits` makes a stretch of them dark or clear, one masked write for
 // each byte. Both take any place: past the bytes every bit reads as clear, and none is written.
 // Proofs about whole rows are here too: bytes whose bits are a row's pixels are the row's bytes.
+#![tactic(auto)]
+
 ghost use Rattle.std.specs.Prelude.{◌≡◌, ℕ, ◌+◌, ◌*◌, ◌/◌, ◌^◌, ◌<◌, ◌≤◌, length, take, drop, if◌then◌else◌, slice_index};
 ghost use Rattle.bits.specs.Bits.{bit_in, bit_of, among};
 

@@ -217,7 +217,7 @@ chain_inside b x y s es p q k o =
 
 -- a chain that comes back in the file comes back where it is placed
 ends_placed : (pl : Placing) (a s : At) (ps : List Piece) → ends_at a s ps ≡ true → last_of (placed pl s) (map (piece_at pl) ps) ≡ placed pl a
-ends_placed pl a s [] h = ap (placed pl) (same-is-equal.yes s a h)
+ends_placed pl a s [] h = ap (placed pl) (same_is_equal.yes s a h)
 ends_placed pl a s (p ∷ ps) h = ends_placed pl a (file_point_at p.end) ps h
 
 pub contour_boxed : (s : FilePoint) (ps : List Piece) (pl : Placing) → closed_from (file_point_at s) ps ≡ true → Encloses (contour_of s ps pl) (box_of s ps pl)

@@ -1,4 +1,4 @@
-use Rattle.std.proofs.Common.{◌≡◌, ℕ, ◌+◌, ◌*◌, ◌/◌, ◌%◌, ◌<◌, ◌≤◌, nat_abs, mod-lt, mul_comm, mul-le-mul_left, mul-add, arith}
+use Rattle.std.proofs.Common.{ℕ, ◌+◌, ◌*◌, ◌/◌, ◌<◌, ◌≤◌, nat_abs, mod-lt, mul_comm, mul-le-mul_left, mul-add, arith}
 use Rattle.film.specs.Frame.{Frame, Limits, centre_x, centre_y}
 use Rattle.std.proofs.lemmas.Int.{ints}
 use native.Mathlib.Nat.{div-add-mod}

@@ -17,9 +17,9 @@ use shapes::shape::Shape;
 
 // Writes columns `first` to `end` - 1 of a row, which are on the film.
 fn put<F: Film>(film: &mut F, row: u32, first: u32, end: u32, dark: bool)
-    requires { (row < (meaning film.old).frame.height) × ((first ≤ end) × (end ≤ (meaning film.old).frame.width)) }
-    ensures painted { Painted (meaning film.old) (in_span row first end) dark (meaning film.new) }
-    ensures beside { beside film.new ≡ beside film.old }
+    requires { (row < (F.meaning film.old).frame.height) × ((first ≤ end) × (end ≤ (F.meaning film.old).frame.width)) }
+    ensures painted { Painted (F.meaning film.old) (in_span row first end) dark (F.meaning film.new) }
+    ensures beside { F.beside film.new ≡ F.beside film.old }
 {
     // The span is on the film, so that this is not refused.
     let _ = film.write_span(row, first, end, dark);
@@ -35,9 +35,9 @@ fn paint_row<F: Film, S: Shape>(
     end: u32,
     dark: bool,
 )
-    requires { (frame_of n ≡ (meaning film.old).frame) × ((row < n.height) × ((first ≤ end) × (end ≤ n.width))) }
-    ensures painted { Painted (meaning film.old) (λ c r. in_span row first end c r && covered shape.now (centre_x (frame_of n) c) (centre_y (frame_of n) r)) dark (meaning film.new) }
-    ensures beside { beside film.new ≡ beside film.old }
+    requires { (frame_of n ≡ (F.meaning film.old).frame) × ((row < n.height) × ((first ≤ end) × (end ≤ n.width))) }
+    ensures painted { Painted (F.meaning film.old) (λ c r. in_span row first end c r && S.covered shape.now (centre_x (frame_of n) c) (centre_y (frame_of n) r)) dark (F.meaning film.new) }
+    ensures beside { F.beside film.new ≡ F.beside film.old }
 {
     let mut start = first;
     for col in first..end {
@@ -51,9 +51,9 @@ fn paint_row<F: Film, S: Shape>(
 
 // Paints the covered pixels of an area.
 fn paint_rows<F: Film, S: Shape>(film: &mut F, n: Numbers, shape: &S, area: Area, dark: bool)
-    requires { (frame_of n ≡ (meaning film.old).frame) × ((area.first ≤ area.end) × ((area.end ≤ n.width) × ((area.top ≤ area.foot) × (area.foot ≤ n.height)))) }
-    ensures painted { Painted (meaning film.old) (λ c r. in_area area.first area.end area.top area.foot c r && covered shape.now (centre_x (frame_of n) c) (centre_y (frame_of n) r)) dark (meaning film.new) }
-    ensures beside { beside film.new ≡ beside film.old }
+    requires { (frame_of n ≡ (F.meaning film.old).frame) × ((area.first ≤ area.end) × ((area.end ≤ n.width) × ((area.top ≤ area.foot) × (area.foot ≤ n.height)))) }
+    ensures painted { Painted (F.meaning film.old) (λ c r. in_area area.first area.end area.top area.foot c r && S.covered shape.now (centre_x (frame_of n) c) (centre_y (frame_of n) r)) dark (F.meaning film.new) }
+    ensures beside { F.beside film.new ≡ F.beside film.old }
 {
     for row in area.top..area.foot {
         paint_row(film, n, shape, row, area.first, area.end, dark);
@@ -83,9 +83,9 @@ fn clip(n: Numbers, v: Window, b: Bounds) -> Area
 
 // Paints the covered pixels of a window, which lies on the film.
 fn paint_window<F: Film, S: Shape>(film: &mut F, n: Numbers, v: Window, shape: &S, dark: bool)
-    requires { (frame_of n ≡ (meaning film.old).frame) × (window_on (frame_of n) v ≡ true) }
-    ensures painted { Painted (meaning film.old) (λ c r. in_window v c r && covered shape.now (centre_x (frame_of n) c) (centre_y (frame_of n) r)) dark (meaning film.new) }
-    ensures beside { beside film.new ≡ beside film.old }
+    requires { (frame_of n ≡ (F.meaning film.old).frame) × (window_on (frame_of n) v ≡ true) }
+    ensures painted { Painted (F.meaning film.old) (λ c r. in_window v c r && S.covered shape.now (centre_x (frame_of n) c) (centre_y (frame_of n) r)) dark (F.meaning film.new) }
+    ensures beside { F.beside film.new ≡ F.beside film.old }
 {
     let area = clip(n, v, shape.bounds());
     paint_rows(film, n, shape, area, dark);
@@ -99,8 +99,8 @@ pub fn paint<F: Film, S: Shape>(
     shape: &S,
     dark: bool,
 ) -> Result<(), FilmFault>
-    ensures outcome { PaintOutcome (meaning film.old) window (covered shape.now) dark result (meaning film.new) }
-    ensures beside { beside film.new ≡ beside film.old }
+    ensures outcome { PaintOutcome (F.meaning film.old) window (S.covered shape.now) dark result (F.meaning film.new) }
+    ensures beside { F.beside film.new ≡ F.beside film.old }
 {
     let n = film.numbers();
     if !n.has(window) {

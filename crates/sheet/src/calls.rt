@@ -45,9 +45,9 @@ impl OpenSheet {
         row: u32,
         out: &mut [u8],
     ) -> Result<(), SheetFault>
-        ensures answer { told result ≡ row_answer (sheet_of self.old) (meaning film.now) row (length out.old) }
-        ensures output { out.new ≡ row_output (sheet_of self.old) (meaning film.now) row out.old }
-        ensures sheet { sheet_of self.new ≡ row_sheet (sheet_of self.old) (meaning film.now) row (length out.old) }
+        ensures answer { told result ≡ row_answer (sheet_of self.old) (F.meaning film.now) row (length out.old) }
+        ensures output { out.new ≡ row_output (sheet_of self.old) (F.meaning film.now) row out.old }
+        ensures sheet { sheet_of self.new ≡ row_sheet (sheet_of self.old) (F.meaning film.now) row (length out.old) }
     {
         let n = film.numbers();
         if row >= n.height {
@@ -87,9 +87,9 @@ impl OpenSheet {
 
 // Puts the bytes of a row of a film into an output from a place on.
 fn put_row<F: Film>(film: &F, row: u32, out: &mut [u8], place: usize)
-    requires on { row < (meaning film.now).frame.height }
-    requires room { place + bytes_for (meaning film.now).frame.width ≤ length out.old }
-    ensures { out.new ≡ put place (row_bytes (meaning film.now) row) out.old }
+    requires on { row < (F.meaning film.now).frame.height }
+    requires room { place + bytes_for (F.meaning film.now).frame.width ≤ length out.old }
+    ensures { out.new ≡ put place (row_bytes (F.meaning film.now) row) out.old }
 {
     // The row is on the film and there is room, so that this is not refused.
     let _ = film.pack_row(row, &mut out[place..]);

@@ -8,6 +8,8 @@
 // hands it back. A closed sheet takes no more rows. The compiler refuses both misuses.
 // `write_film` does it all for one film, and `sheet_length` says how much room a sheet wants.
 // `laws`: what was written reads back, by the rules of P4, as the film.
+#![tactic(auto)]
+
 pub mod calls;
 pub mod closed;
 pub mod fault;

@@ -12,7 +12,7 @@ use film::film::Film;
 
 // How many bytes the sheet of a film takes.
 fn film_length<F: Film>(film: &F) -> usize
-    ensures { result ≡ sheet_length (meaning film.now).frame.width (meaning film.now).frame.height }
+    ensures { result ≡ sheet_length (F.meaning film.now).frame.width (F.meaning film.now).frame.height }
 {
     let n = film.numbers();
     whole_length(n.width, n.height)
@@ -20,10 +20,10 @@ fn film_length<F: Film>(film: &F) -> usize
 
 // Opens a sheet of a film's size, writes every row of the film and closes it.
 fn put_film<F: Film>(film: &F, out: &mut [u8]) -> usize
-    requires { sheet_length (meaning film.now).frame.width (meaning film.now).frame.height ≤ length out.old }
-    ensures length { result ≡ sheet_length (meaning film.now).frame.width (meaning film.now).frame.height }
-    ensures output { out.new ≡ put 0 (sheet_bytes (meaning film.now)) out.old }
-    ensures reads_back { ReadsBack out.new (meaning film.now) }
+    requires { sheet_length (F.meaning film.now).frame.width (F.meaning film.now).frame.height ≤ length out.old }
+    ensures length { result ≡ sheet_length (F.meaning film.now).frame.width (F.meaning film.now).frame.height }
+    ensures output { out.new ≡ put 0 (sheet_bytes (F.meaning film.now)) out.old }
+    ensures reads_back { ReadsBack out.new (F.meaning film.now) }
 {
     let n = film.numbers();
     let Ok(mut sheet) = OpenSheet::open(n.width, n.height, out) else {
@@ -41,9 +41,9 @@ fn put_film<F: Film>(film: &F, out: &mut [u8]) -> usize
 
 // Writes a film as a sheet to the front of the output, and answers how many bytes it takes.
 pub fn write_film<F: Film>(film: &F, out: &mut [u8]) -> Result<usize, SheetFault>
-    ensures answer { told result ≡ film_answer (meaning film.now) (length out.old) }
-    ensures output { out.new ≡ film_output (meaning film.now) out.old }
-    ensures reads_back { is_ok result ≡ true → ReadsBack out.new (meaning film.now) }
+    ensures answer { told result ≡ film_answer (F.meaning film.now) (length out.old) }
+    ensures output { out.new ≡ film_output (F.meaning film.now) out.old }
+    ensures reads_back { is_ok result ≡ true → ReadsBack out.new (F.meaning film.now) }
 {
     if out.len() < film_length(film) {
         return Err(SheetFault::Short);

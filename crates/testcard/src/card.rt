@@ -11,9 +11,9 @@ use film::numbers::Numbers;
 
 // Makes every pixel of a row clear.
 fn clear_row<F: Film>(film: &mut F, n: Numbers, row: u32)
-    requires { (frame_of n ≡ (meaning film.old).frame) × (row < n.height) }
-    ensures shows { RowShows (meaning film.old) row (λ _. false) (meaning film.new) }
-    ensures beside { beside film.new ≡ beside film.old }
+    requires { (frame_of n ≡ (F.meaning film.old).frame) × (row < n.height) }
+    ensures shows { RowShows (F.meaning film.old) row (λ _. false) (F.meaning film.new) }
+    ensures beside { F.beside film.new ≡ F.beside film.old }
 {
     // The row is on the film, so that this is not refused.
     let _ = film.write_span(row, 0, n.width, false);
@@ -21,9 +21,9 @@ fn clear_row<F: Film>(film: &mut F, n: Numbers, row: u32)
 
 // Makes a bar of a row dark.
 fn mark<F: Film>(film: &mut F, row: u32, bar: Bar)
-    requires { (row < (meaning film.old).frame.height) × ((bar.first ≤ bar.end) × (bar.end ≤ (meaning film.old).frame.width)) }
-    ensures marked { Marked (meaning film.old) row bar.first bar.end (meaning film.new) }
-    ensures beside { beside film.new ≡ beside film.old }
+    requires { (row < (F.meaning film.old).frame.height) × ((bar.first ≤ bar.end) × (bar.end ≤ (F.meaning film.old).frame.width)) }
+    ensures marked { Marked (F.meaning film.old) row bar.first bar.end (F.meaning film.new) }
+    ensures beside { F.beside film.new ≡ F.beside film.old }
 {
     // The bar is on the film, so that this is not refused.
     let _ = film.write_span(row, bar.first, bar.end, true);
@@ -31,9 +31,9 @@ fn mark<F: Film>(film: &mut F, row: u32, bar: Bar)
 
 // Draws one row of the card.
 fn draw_row<F: Film>(film: &mut F, n: Numbers, row: u32)
-    requires { (frame_of n ≡ (meaning film.old).frame) × (row < n.height) }
-    ensures shows { RowShows (meaning film.old) row (λ c. card_pixel n.width n.height c row) (meaning film.new) }
-    ensures beside { beside film.new ≡ beside film.old }
+    requires { (frame_of n ≡ (F.meaning film.old).frame) × (row < n.height) }
+    ensures shows { RowShows (F.meaning film.old) row (λ c. card_pixel n.width n.height c row) (F.meaning film.new) }
+    ensures beside { F.beside film.new ≡ F.beside film.old }
 {
     clear_row(film, n, row);
     mark(film, row, left_bar(n.width, n.height, row));
@@ -45,8 +45,8 @@ fn draw_row<F: Film>(film: &mut F, n: Numbers, row: u32)
 
 // Draws the card's rows from one row down to the last.
 fn draw_rows<F: Film>(film: &mut F, first: u32)
-    ensures drawn { DrawnFrom (meaning film.old) first (meaning film.new) }
-    ensures beside { beside film.new ≡ beside film.old }
+    ensures drawn { DrawnFrom (F.meaning film.old) first (F.meaning film.new) }
+    ensures beside { F.beside film.new ≡ F.beside film.old }
 {
     let n = film.numbers();
     for row in first..n.height {
@@ -56,8 +56,8 @@ fn draw_rows<F: Film>(film: &mut F, first: u32)
 
 // Draws the test card over all of a film.
 pub fn draw_test_card<F: Film>(film: &mut F)
-    ensures drawn { CardDrawn (meaning film.old) (meaning film.new) }
-    ensures beside { beside film.new ≡ beside film.old }
+    ensures drawn { CardDrawn (F.meaning film.old) (F.meaning film.new) }
+    ensures beside { F.beside film.new ≡ F.beside film.old }
 {
     draw_rows(film, 0);
 }

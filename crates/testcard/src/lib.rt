@@ -6,6 +6,8 @@
 // middle half of the film, for the centre. Everything else becomes clear.
 // It works on films of every size, and on piles, so that a card drawn through a negative of a
 // cut-out gives a corner with dark and clear exchanged.
+#![tactic(auto)]
+
 mod bar;
 mod bars;
 pub mod card;

@@ -10,7 +10,7 @@ use Rattle.contour.proofs.chain.chain_covers.Goals as goal
 
 pub loop-piece-preserved : goal.loop-piece-preserved
 loop-piece-preserved c =
-    parity_more (piece_at c.args.placing) c.args.pieces.now c.loop-piece.piece-index c.piece-item.result (place_at c.loop-piece.at) (place_at c.place-point-end.result) (point_at c.args.p) c.loop-piece.inside c.turned-by-inside.result _ c.loop-piece-test.true c.piece-item.is c.place-point-end.ensures (c.turned-by-inside.ensures ∙ ap (differ c.loop-piece.inside) c.piece-counts.ensures) c.loop-piece.invariant
+    parity_more (piece_at c.args.placing) c.args.pieces.now c.loop-piece.piece-index c.piece-item.result (place_at c.loop-piece.at) (place_at c.place_point-end.result) (point_at c.args.p) c.loop-piece.inside c.turned_by-inside.result _ c.loop-piece-test.true c.piece-item.is c.place_point-end.ensures (c.turned_by-inside.ensures ∙ ap (differ c.loop-piece.inside) c.piece_counts.ensures) c.loop-piece.invariant
 
 pub returns : goal.returns
 returns c =

@@ -8,6 +8,6 @@ use Rattle.contour.proofs.contour_shape.contour_box.Goals as goal
 pub returns : goal.returns
 returns c =
     record {
-      value = c.chain-box.ensures ∙ ap (λ (s : At). box_from (single s) (map (piece_at c.args.placing) c.args.pieces.now)) c.place-point.ensures;
+      value = c.chain_box.ensures ∙ ap (λ (s : At). box_from (single s) (map (piece_at c.args.placing) c.args.pieces.now)) c.place_point.ensures;
       law = contour_boxed c.args.start c.args.pieces.now c.args.placing c.requires;
     }

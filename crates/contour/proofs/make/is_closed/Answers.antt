@@ -12,5 +12,5 @@ loop-piece-preserved c =
 
 pub returns : goal.returns
 returns c =
-    c.is-same.ensures
+    c.is_same.ensures
     ∙ sym (c.loop-piece.invariant ∙ ap (λ (ps : List Piece). ends_at (file_point_at c.args.start) (file_point_at c.loop-piece.end) ps) (drop_all c.loop-piece.piece-index c.args.pieces.now c.loop-piece-test.false))

@@ -1,24 +1,22 @@
-use Rattle.std.proofs.Common.{ℕ, ◌+◌, ◌-◌, ◌<◌, ◌≤◌, ⊎_elim, arith, w32, SFits, rules}
+use Rattle.std.proofs.Common.{ℕ, ◌-◌, ◌<◌, ◌≤◌, ⊎_elim, arith, w32, SFits, rules}
 use Rattle.film.proofs.Limiting.{limits_of}
-use Rattle.film.specs.Frame.{centre_x, centre_y}
-use Rattle.film.specs.Made.{frame_of, window_on}
+use Rattle.film.specs.Made.{frame_of}
 use Rattle.paint.proofs.Steps.{window_fits}
 use Rattle.paint.proofs.painting.clip.Goals as goal
-use Rattle.shapes.specs.Box.{Inside}
 use Rattle.std.proofs.lemmas.Int.{ints}
 use Rattle.std.proofs.lemmas.Bool.{cases_lt}
 
-pub steps-before-left-requires : goal.steps-before-left-requires
-steps-before-left-requires c = (limits_of (frame_of c.args.n) c.args.n.ok).least
+pub steps_before-left-requires : goal.steps_before-left-requires
+steps_before-left-requires c = (limits_of (frame_of c.args.n) c.args.n.ok).least
 
-pub steps-upto-right-requires : goal.steps-upto-right-requires
-steps-upto-right-requires c = (limits_of (frame_of c.args.n) c.args.n.ok).least
+pub steps_upto-right-requires : goal.steps_upto-right-requires
+steps_upto-right-requires c = (limits_of (frame_of c.args.n) c.args.n.ok).least
 
-pub steps-upto-high-requires : goal.steps-upto-high-requires
-steps-upto-high-requires c = (limits_of (frame_of c.args.n) c.args.n.ok).least
+pub steps_upto-high-requires : goal.steps_upto-high-requires
+steps_upto-high-requires c = (limits_of (frame_of c.args.n) c.args.n.ok).least
 
-pub steps-before-low-requires : goal.steps-before-low-requires
-steps-before-low-requires c = (limits_of (frame_of c.args.n) c.args.n.ok).least
+pub steps_before-low-requires : goal.steps_before-low-requires
+steps_before-low-requires c = (limits_of (frame_of c.args.n) c.args.n.ok).least
 
 pub returns : goal.returns
 returns c =
@@ -40,14 +38,14 @@ returns c =
       upper = omega arith;
       lower = λ h. omega arith;
       holds = λ k q kx xk qy yq i.
-          let a : c.steps-before-left.result ≤ k =
-          ⊎_elim (λ (h : k < c.steps-before-left.result). absurd (omega (arith, ints, c.steps-before-left.ensures.before k h, i.left))) (λ (h : c.steps-before-left.result ≤ k). h) (cases_lt k c.steps-before-left.result) in
-          let b : k < c.steps-upto-right.result =
-          ⊎_elim (λ (h : k < c.steps-upto-right.result). h) (λ (h : c.steps-upto-right.result ≤ k). absurd (omega (arith, ints, c.steps-upto-right.ensures.past k h (omega arith), i.right))) (cases_lt k c.steps-upto-right.result) in
+          let a : c.steps_before-left.result ≤ k =
+          ⊎_elim (λ (h : k < c.steps_before-left.result). absurd (omega (arith, ints, c.steps_before-left.ensures.before k h, i.left))) (λ (h : c.steps_before-left.result ≤ k). h) (cases_lt k c.steps_before-left.result) in
+          let b : k < c.steps_upto-right.result =
+          ⊎_elim (λ (h : k < c.steps_upto-right.result). h) (λ (h : c.steps_upto-right.result ≤ k). absurd (omega (arith, ints, c.steps_upto-right.ensures.past k h (omega arith), i.right))) (cases_lt k c.steps_upto-right.result) in
           let j : ℕ = n.height - 1 - q in
-          let u : j < c.steps-upto-high.result =
-          ⊎_elim (λ (h : j < c.steps-upto-high.result). h) (λ (h : c.steps-upto-high.result ≤ j). absurd (omega (arith, ints, c.steps-upto-high.ensures.past j h (omega arith), i.top))) (cases_lt j c.steps-upto-high.result) in
-          let d : c.steps-before-low.result ≤ j =
-          ⊎_elim (λ (h : j < c.steps-before-low.result). absurd (omega (arith, ints, c.steps-before-low.ensures.before j h, i.bottom))) (λ (h : c.steps-before-low.result ≤ j). h) (cases_lt j c.steps-before-low.result) in
+          let u : j < c.steps_upto-high.result =
+          ⊎_elim (λ (h : j < c.steps_upto-high.result). h) (λ (h : c.steps_upto-high.result ≤ j). absurd (omega (arith, ints, c.steps_upto-high.ensures.past j h (omega arith), i.top))) (cases_lt j c.steps_upto-high.result) in
+          let d : c.steps_before-low.result ≤ j =
+          ⊎_elim (λ (h : j < c.steps_before-low.result). absurd (omega (arith, ints, c.steps_before-low.ensures.before j h, i.bottom))) (λ (h : c.steps_before-low.result ≤ j). h) (cases_lt j c.steps_before-low.result) in
           (omega arith, omega arith, omega arith, omega arith);
     }

@@ -1,4 +1,4 @@
-use Rattle.std.proofs.Common.{◌≡◌, ℕ, ◌+◌, ◌<◌, ◌≤◌, Bool, true, false, sym, refl, ◌∙◌, ⊎_elim, arith, rules}
+use Rattle.std.proofs.Common.{◌≡◌, ℕ, ◌<◌, ◌≤◌, Bool, true, false, refl, ◌∙◌, ⊎_elim, arith}
 use Rattle.film.specs.Frame.{centre_x, centre_y}
 use Rattle.film.specs.Made.{frame_of}
 use Rattle.paint.proofs.Steps.{row_join, row_none, row_skip}

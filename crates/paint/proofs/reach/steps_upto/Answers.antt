@@ -1,6 +1,6 @@
 use Rattle.std.proofs.Common.{arith}
 use borrow.Author.Differences.{ints}
-use Rattle.paint.proofs.Middles.{below_div, past_div}
+use Rattle.paint.proofs.Middles.{past_div}
 use Rattle.paint.proofs.reach.steps_upto.Goals as goal
 
 pub returns-then-n-count : goal.returns-then-n-count

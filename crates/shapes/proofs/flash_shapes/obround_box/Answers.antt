@@ -3,4 +3,4 @@ use Rattle.shapes.proofs.Boxes.{obround_boxed}
 use Rattle.shapes.proofs.flash_shapes.obround_box.Goals as goal
 
 pub returns : goal.returns
-returns c = record { value = c.box-about.ensures; law = obround_boxed (place_at c.args.q) c.args.a.ticks c.args.b.ticks }
+returns c = record { value = c.box_about.ensures; law = obround_boxed (place_at c.args.q) c.args.a.ticks c.args.b.ticks }

@@ -11,8 +11,8 @@ use Rattle.sheet.proofs.whole.put_film.Goals as goal
 pub unreachable-requires : goal.unreachable-requires
 unreachable-requires g c =
     let n = c.numbers-n.result in
-    not_refused (g.F.Film.meaning c.args.film.now) (frame_of n) (length c.args.out.now) (sheet_told c.in-default.field-0) c.numbers-n.ensures n.ok c.requires
-    c.in-default.ensures.answer
+    not_refused (g.F.Film.meaning c.args.film.now) (frame_of n) (length c.args.out.now) (sheet_told c.in_default.field-0) c.numbers-n.ensures n.ok c.requires
+    c.in_default.ensures.answer
 
 pub loop-row-init : goal.loop-row-init
 loop-row-init g c =
@@ -29,9 +29,9 @@ loop-row-preserved g c =
     let a = c.in-Ok.ensures in
     let o = opening m (frame_of n) (sheet_of c.in-Ok.sheet) c.args.out.now c.open.new.out c.numbers-n.ensures n.ok c.requires a.answer a.output in
     let tall = ap (λ f. f.height) c.numbers-n.ensures in
-    row_again m c.loop-row.row (sheet_of c.loop-row.sheet) (sheet_of c.write-row.new.self) (sheet_of c.in-Ok.sheet)
-    c.args.out.now c.open.new.out c.loop-row.out c.write-row.new.out o (omega arith) (omega arith) (omega (arith, tall))
-    c.loop-row.invariant c.write-row.ensures.sheet c.write-row.ensures.output
+    row_again m c.loop-row.row (sheet_of c.loop-row.sheet) (sheet_of c.write_row.new.self) (sheet_of c.in-Ok.sheet)
+    c.args.out.now c.open.new.out c.loop-row.out c.write_row.new.out o (omega arith) (omega arith) (omega (arith, tall))
+    c.loop-row.invariant c.write_row.ensures.sheet c.write_row.ensures.output
 
 pub returns : goal.returns
 returns g c =

@@ -7,6 +7,6 @@ use Rattle.strokes.proofs.arc_shape.arc_box.Goals as goal
 pub returns : goal.returns
 returns c =
     record {
-      value = c.box-around.ensures ∙ ap (λ (n : ℕ). box_about (place_at c.args.c) n n) c.arc-reach.ensures.value;
+      value = c.box_around.ensures ∙ ap (λ (n : ℕ). box_about (place_at c.args.c) n n) c.arc_reach.ensures.value;
       law = arc_boxed c.args.half.ticks c.args.clockwise (place_at c.args.c) (place_at c.args.s) (place_at c.args.e);
     }

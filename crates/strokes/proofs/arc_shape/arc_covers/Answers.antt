@@ -3,4 +3,4 @@ use Rattle.strokes.proofs.arc_shape.arc_covers.Goals as goal
 
 pub returns : goal.returns
 unfolding arc_at
-returns c = c.in-arc.ensures
+returns c = c.in_arc.ensures

@@ -7,6 +7,6 @@ use Rattle.strokes.proofs.arc_shape.root_of.Goals as goal
 
 pub returns : goal.returns
 returns c =
-    let n : c.unsigned-abs.result ≡ nat_abs c.args.n = c.unsigned-abs.ensures.value ∙ omega (arith, ints) in
+    let n : c.unsigned_abs.result ≡ nat_abs c.args.n = c.unsigned_abs.ensures.value ∙ omega (arith, ints) in
     let s : c.isqrt.result ≤ 3000000 = sq_le c.isqrt.result 3000000 (omega arith) in
-    record { value = root_is c.unsigned-abs.result c.isqrt.result c.isqrt.ensures.square_le c.isqrt.ensures.next-square-gt ∙ ap root n; small = s }
+    record { value = root_is c.unsigned_abs.result c.isqrt.result c.isqrt.ensures.square_le c.isqrt.ensures.next_square_gt ∙ ap root n; small = s }

@@ -3,4 +3,4 @@ use Rattle.strokes.proofs.Bands.{stroke_boxed}
 use Rattle.strokes.proofs.stroke_shape.stroke_box.Goals as goal
 
 pub returns : goal.returns
-returns c = record { value = c.box-along.ensures; law = stroke_boxed c.args.half.ticks (place_at c.args.s) (place_at c.args.e) }
+returns c = record { value = c.box_along.ensures; law = stroke_boxed c.args.half.ticks (place_at c.args.s) (place_at c.args.e) }

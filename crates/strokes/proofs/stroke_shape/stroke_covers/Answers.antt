@@ -3,4 +3,4 @@ use Rattle.strokes.proofs.stroke_shape.stroke_covers.Goals as goal
 
 pub returns : goal.returns
 unfolding stroke_at
-returns c = c.in-stroke.ensures
+returns c = c.in_stroke.ensures
