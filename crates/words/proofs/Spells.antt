@@ -1,15 +1,15 @@
 use Rattle.std.proofs.Common.{◌≡◌, ℕ, ◌+◌, ◌-◌, ◌<◌, ◌≤◌, Bool, true, false, cond, eqb, leb, List, [], ◌∷◌, ◌++◌, length, get_or, take, drop, Ok, Err, Result, sym, refl, ap, ◌∙◌, subst, append_assoc, one-add, arith, length-drop, take-append-drop, length-take, take_all, drop-drop}
 use Rattle.std.proofs.lemmas.List.{drop_more}
 use Rattle.std.proofs.lemmas.Bool.Decides.{nat_tests}
-use Rattle.std.specs.List.{between, prefix_len, AllByRecursion as All}
+use Rattle.std.specs.List.{between, prefix_len, AllByRecursion}
 use Rattle.words.specs.Spelling.{ClosedByGap, Content, WordsAreTheFile, spelled}
 use Rattle.words.specs.Words.{WordSeen, content_end, extended_word, fault, is_content, is_gap, next_word, onward, plain_word, star_after, star_at, word_from, word_start}
 
 -- the front that passes a test has only bytes that pass it
-front_passes : (p : ℕ → Bool) (ys : List ℕ) → All (λ b. p b ≡ true) (take (prefix_len p ys) ys)
+front_passes : (p : ℕ → Bool) (ys : List ℕ) → AllByRecursion (λ b. p b ≡ true) (take (prefix_len p ys) ys)
 front_passes p [] = tt
 front_passes p (y ∷ ys) =
-    let step : (b : Bool) → p y ≡ b → All (λ x. p x ≡ true) (take (cond b (1 + prefix_len p ys) 0) (y ∷ ys)) = λ b. elim b as (λ b. p y ≡ b → All (λ x. p x ≡ true) (take (cond b (1 + prefix_len p ys) 0) (y ∷ ys))) [ true ↦ (λ e. rw one-add (e, front_passes p ys)) | false ↦ (λ e. tt) ]
+    let step : (b : Bool) → p y ≡ b → AllByRecursion (λ x. p x ≡ true) (take (cond b (1 + prefix_len p ys) 0) (y ∷ ys)) = λ b. elim b as (λ b. p y ≡ b → AllByRecursion (λ x. p x ≡ true) (take (cond b (1 + prefix_len p ys) 0) (y ∷ ys))) [ true ↦ (λ e. rw one-add (e, front_passes p ys)) | false ↦ (λ e. tt) ]
     in step (p y) refl
 
 -- a list from i on, cut behind its next n bytes
@@ -47,7 +47,7 @@ content_good : (xs : List ℕ) (i e : ℕ) → e ≡ content_end xs i → e < le
 content_good xs i e p l h =
     let m : prefix_len is_content (drop i xs) ≡ e - i = omega arith in
     let long : 1 ≤ length (between i e xs) = simp (length-take, length-drop) (omega arith) in
-    (long, subst (λ n. All (λ b. is_content b ≡ true) (take n (drop i xs))) m (front_passes is_content (drop i xs)))
+    (long, subst (λ n. AllByRecursion (λ b. is_content b ≡ true) (take n (drop i xs))) m (front_passes is_content (drop i xs)))
 
 plain_spells : (xs : List ℕ) (i e : ℕ) (w : WordSeen) → e ≡ content_end xs i → e < length xs → get_or xs e 0 ≡ 42 → i < e → plain_word xs i e ≡ Ok w → Spells xs i w
 plain_spells xs i e w p l s h k =
@@ -94,4 +94,4 @@ pub closed_by_gap : ClosedByGap
 closed_by_gap k xs at h =
     let n = prefix_len is_gap (drop at xs) in
     let l : length (drop at xs) ≤ n = simp length-drop (grind (arith, nat_tests)) in
-    subst (All (λ b. is_gap b ≡ true)) (take_all n (drop at xs) l) (front_passes is_gap (drop at xs))
+    subst (AllByRecursion (λ b. is_gap b ≡ true)) (take_all n (drop at xs) l) (front_passes is_gap (drop at xs))

@@ -1,14 +1,14 @@
 use Rattle.std.specs.Prelude.{◌≡◌, ℕ, ◌+◌, ◌≤◌, true, cond, List, [], ◌∷◌, ◌++◌, length, drop, Ok}
-use Rattle.std.specs.List.{AllByRecursion as All}
+use Rattle.std.specs.List.{AllByRecursion}
 use Rattle.words.specs.Words.{WordSeen, closing, is_content, is_gap, next_word}
 
 -- A gap has nothing but LF and CR.
 abbrev pub Gap : List ℕ → Type 0
-Gap g = All (λ b. is_gap b ≡ true) g
+Gap g = AllByRecursion (λ b. is_gap b ≡ true) g
 
 -- Content has one byte or more, and content bytes only.
 abbrev pub Content : List ℕ → Type 0
-Content t = (1 ≤ length t) × All (λ b. is_content b ≡ true) t
+Content t = (1 ≤ length t) × AllByRecursion (λ b. is_content b ≡ true) t
 
 -- A word as it is written: content and `*`, or `%`, content and `*%`.
 abbrev pub spelled : WordSeen → List ℕ
