@@ -1,5 +1,5 @@
 -- Where a pixel's bit lies.
-use Rattle.std.proofs.Common.{◌≡◌, ℕ, ◌+◌, ◌-◌, ◌*◌, ◌/◌, ◌%◌, ◌^◌, ◌<◌, ◌≤◌, Bool, true, false, cond, ◌&&◌, eqb, ltb, leb, List, [], ◌++◌, length, get_or, drop, replicate, Some, None, Ok, Err, sym, refl, ap, ◌∙◌, inl, inr, ⊎_elim, arith}
+use Rattle.std.proofs.Common.{◌≡◌, ℕ, ◌+◌, ◌-◌, ◌*◌, ◌/◌, ◌%◌, ◌^◌, ◌<◌, ◌≤◌, Bool, true, false, cond, ◌&&◌, eqb, ltb, leb, List, [], ◌++◌, length, get_or, drop, replicate, Some, None, Ok, Err, sym, refl, ap, ◌∙◌, ⊎_elim, arith}
 use native.Mathlib.Nat.{zero-div}
 use lib.ListN.{length-replicate}
 use Rattle.std.proofs.lemmas.Nat.{mul-le}
@@ -9,7 +9,7 @@ use Rattle.std.proofs.lemmas.Bool.Decides.{nat_tests}
 use Rattle.bits.specs.Bits.{bit_in, bit_of, among}
 use Rattle.bits.proofs.Rows.{byte_is}
 use Rattle.film.specs.Faults.{call}
-use Rattle.film.specs.Film.{Meaning, Beside, SpanWritten, in_span, span_on, read_of}
+use Rattle.film.specs.Film.{Beside, SpanWritten, in_span, read_of}
 use Rattle.film.specs.Made.{frame_of}
 use Rattle.film.specs.Packed.{bytes_for, inked, byte_of}
 use Rattle.film.specs.declared.numbers.Numbers.{Numbers}

@@ -1,5 +1,5 @@
 -- Making a bitmap.
-use Rattle.std.specs.Prelude.{◌≡◌, ℕ, ◌+◌, ◌*◌, ◌<◌, Bool, false, cond, List, ◌++◌, drop, replicate, Some, None, Option, nat_le}
+use Rattle.std.specs.Prelude.{◌≡◌, ℕ, ◌*◌, ◌<◌, false, cond, List, ◌++◌, drop, replicate, Some, None, Option, nat_le}
 use Rattle.film.specs.Frame.{Frame, in_limits}
 use Rattle.film.specs.Faults.{Told, call}
 use Rattle.film.specs.Made.{frame_of}

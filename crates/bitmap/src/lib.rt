@@ -5,5 +5,7 @@
 // `Bitmap::new` takes the memory and clears the film's own part of it, or hands it back with the
 // reason; `into_memory` gives it back. Bytes past the film's own stay as they were.
 // A span costs the bytes that it touches, and a row is packed by copying its bytes.
+#![tactic(auto)]
+
 pub mod bitmap;
 pub mod making;

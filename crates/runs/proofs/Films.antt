@@ -1,18 +1,18 @@
 -- A film with one row written.
-use Rattle.std.proofs.Common.{◌≡◌, ℕ, ◌+◌, ◌-◌, ◌*◌, ◌/◌, ◌<◌, ◌≤◌, Bool, true, false, cond, ◌&&◌, eqb, ltb, leb, ◌≢◌, List, [], ◌++◌, length, get_or, take, drop, replicate, Some, None, Ok, sym, refl, ap, ◌∙◌, inl, inr, ⊎_elim, arith}
+use Rattle.std.proofs.Common.{◌≡◌, ℕ, ◌*◌, ◌<◌, ◌≤◌, Bool, true, false, cond, ◌&&◌, ltb, leb, List, [], ◌++◌, get_or, take, drop, replicate, Some, None, Ok, sym, refl, ap, ◌∙◌, ⊎_elim, arith}
 use lib.ListN.{length-replicate}
 use Rattle.std.proofs.lemmas.List.{get_or_append_left, get_or-replicate}
 use Rattle.std.proofs.lemmas.Bool.{cases_eq, and_from, and_parts, leb-true, le-leb}
 use Rattle.std.proofs.lemmas.Bool.Decides.{nat_tests}
-use Rattle.film.specs.Film.{Meaning, Beside, SpanWritten, in_span}
+use Rattle.film.specs.Film.{Beside, SpanWritten, in_span}
 use Rattle.film.specs.declared.numbers.Numbers.{Numbers}
 use Rattle.runs.specs.declared.run.Run.{Run}
-use Rattle.runs.specs.Rows.{RowWritten, row_ok, in_row}
+use Rattle.runs.specs.Rows.{row_ok, in_row}
 use Rattle.runs.specs.Slots.{row_slots, runs_of, row_sound, run_meaning, spread, run_beside}
 use Rattle.film.specs.Faults.{call}
 use Rattle.film.specs.Made.{frame_of}
 use Rattle.runs.specs.Made.{run_refusal, NewRunFilm}
-use Rattle.runs.specs.Changed.{Within, RowChanged}
+use Rattle.runs.specs.Changed.{RowChanged}
 use Rattle.runs.proofs.Places.{row_room}
 
 -- every row stays in order
@@ -68,8 +68,8 @@ pub beside_kept : (n : Numbers) (row a b : ℕ) (dark : Bool) (counts counts' : 
 beside_kept n row a b dark counts counts' slots slots' l q =
     let B : List ℕ → List Run → Beside = λ cs ss. record { memory = cs ++ spread ss; pixels = [] } in
     let r = row_room row n.height (row_slots n.width) l in
-    ap (λ cs. B cs (drop (n.height * row_slots n.width) slots')) (q.later-counts n.height l)
-    ∙ ap (B (drop n.height counts)) (q.later-slots (n.height * row_slots n.width) r)
+    ap (λ cs. B cs (drop (n.height * row_slots n.width) slots')) (q.later_counts n.height l)
+    ∙ ap (B (drop n.height counts)) (q.later_slots (n.height * row_slots n.width) r)
 
 -- a film whose own counts were made 0
 zero_count : (h r : ℕ) (xs ys : List ℕ) → ys ≡ replicate h 0 ++ drop h xs → r < h → get_or ys r 0 ≡ 0

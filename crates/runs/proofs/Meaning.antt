@@ -1,9 +1,9 @@
 -- What a row shows after a span is darkened or cleared, and that it stays in order.
-use Rattle.std.proofs.Common.{◌≡◌, ℕ, suc, ◌+◌, ◌*◌, ◌<◌, ◌≤◌, min, max, Bool, true, false, cond, ◌&&◌, ◌||◌, ltb, leb, List, [], ◌∷◌, ◌++◌, length, sym, refl, ap, ◌∙◌, inl, inr, ⊎_elim, arith}
+use Rattle.std.proofs.Common.{◌≡◌, ℕ, suc, ◌+◌, ◌*◌, ◌<◌, ◌≤◌, min, max, Bool, true, false, cond, ◌&&◌, ◌||◌, ltb, leb, List, [], ◌∷◌, length, refl, ⊎_elim, arith}
 use Rattle.std.proofs.lemmas.Bool.{cases_lt, cases_Bool}
 use Rattle.std.proofs.lemmas.Bool.Decides.{nat_tests}
 use Rattle.runs.specs.declared.run.Run.{Run}
-use Rattle.runs.specs.Rows.{run, in_run, in_row, row_ok, absorbed, darkened, trimmed, dropped, left_of, cleared, RowWritten}
+use Rattle.runs.specs.Rows.{run, in_run, in_row, row_ok, absorbed, darkened, dropped, cleared, RowWritten}
 
 pub record Parts (lo w : ℕ) (x : Run) (xs : List Run) : Type 0 where
   pub low : lo ≤ x.first

@@ -1,8 +1,7 @@
 -- The functions of a row, step by step as the code goes.
-use Rattle.std.proofs.Common.{◌≡◌, ℕ, suc, ◌+◌, ◌-◌, ◌<◌, ◌≤◌, min, max, Bool, true, false, cond, ◌&&◌, ◌||◌, ltb, leb, ◌≢◌, List, [], ◌∷◌, ◌++◌, length, get_or, take, drop, set, sym, refl, ap, ◌∙◌, inl, inr, ⊎_elim, add-one, one-add, arith, rules}
+use Rattle.std.proofs.Common.{◌≡◌, ℕ, ◌+◌, ◌-◌, ◌<◌, ◌≤◌, min, max, Bool, true, false, cond, ◌||◌, ltb, List, [], ◌∷◌, ◌++◌, length, get_or, take, drop, set, sym, refl, ap, ◌∙◌, ⊎_elim, add-one, one-add, arith, rules}
 use Rattle.std.specs.List.{insert, prefix_len}
-use Rattle.std.proofs.lemmas.List.{append_assoc, append-nil, places, same_lists, at_drop_more, at_drop_all, set_split, take_at, drop_at, drop_all, take_all, take-take, take-append-le, length-take-le, length-take, length-drop, length-append, get_or-take, get_or-set_same, get_or-set_other}
-use Rattle.std.proofs.lemmas.List.Sums.{prefix_len-le-length}
+use Rattle.std.proofs.lemmas.List.{append-nil, places, same_lists, at_drop_more, at_drop_all, set_split, take_at, drop_at, take_all, take-take, take-append-le, length-take-le, length-take, length-drop, length-append, get_or-take, get_or-set_same, get_or-set_other}
 use Rattle.std.proofs.lemmas.Bool.{cases_Bool, cases_eq, le-leb, lt-leb}
 use Rattle.std.proofs.lemmas.Bool.Decides.{nat_tests}
 use Rattle.runs.specs.declared.run.Run.{Run}

@@ -1,8 +1,8 @@
 -- What writing one row leaves as it was.
-use Rattle.std.specs.Prelude.{◌≡◌, ℕ, ◌+◌, ◌*◌, ◌<◌, ◌≤◌, Bool, true, List, length, take, drop, ◌≢◌, slice_index, slice_index_or}
+use Rattle.std.specs.Prelude.{◌≡◌, ℕ, ◌+◌, ◌*◌, ◌<◌, ◌≤◌, Bool, List, take, drop, ◌≢◌, slice_index, slice_index_or}
 use Rattle.runs.specs.declared.run.Run.{Run}
 use Rattle.runs.specs.Rows.{RowWritten}
-use Rattle.runs.specs.Slots.{row_slots, runs_of, row_sound}
+use Rattle.runs.specs.Slots.{row_slots, runs_of}
 
 -- ys is xs but for the k slots from start on
 pub record Within (xs : List Run) (start k : ℕ) (ys : List Run) : Type 0 where

@@ -6,6 +6,8 @@
 // Writing a dark span joins the runs that it meets or touches, a clear one cuts what it meets.
 // `RunFilm::new` takes the memory and empties the film's rows, or hands it back with the reason;
 // `into_memory` gives it back. Counts and slots past the film's own stay as they were.
+#![tactic(auto)]
+
 pub mod making;
 mod pack;
 mod row;

@@ -1,7 +1,6 @@
 use Rattle.std.proofs.Common.{◌≡◌, ℕ, List, ◌++◌, drop, replicate, vec_items, ap, ◌∙◌, arith, rules}
 use Rattle.std.specs.Vec.{with_items}
 use Rattle.std.proofs.lemmas.List.{with_items_is}
-use Rattle.bitmap.specs.Pixels.{own_bytes}
 use Rattle.bitmap.proofs.Places.{new_padded, new_bitmap, not_refused}
 use Rattle.bitmap.proofs.making.over.Goals as goal
 
@@ -9,14 +8,14 @@ use Rattle.bitmap.proofs.making.over.Goals as goal
 cleared : (xs ys zs ws : List ℕ) (n k : ℕ) → zs ≡ ys → ys ≡ replicate k 0 ++ drop k ws → k ≡ n → ws ≡ xs → zs ≡ replicate n 0 ++ drop n xs
 cleared xs ys zs ws n k a b e f = a ∙ b ∙ ap (λ i. replicate i 0 ++ drop i ws) e ∙ ap (λ zs. replicate n 0 ++ drop n zs) f
 
-pub invariant-of-result : goal.invariant-of-result
-invariant-of-result c =
+pub invariant_of-result : goal.invariant_of-result
+invariant_of-result c =
     let is : vec_items (with_items c.args.memory c.clear.new.bytes) ≡ c.clear.new.bytes = with_items_is c.args.memory c.clear.new.bytes (search rules) in
-    let e = cleared _ _ _ _ _ _ is c.clear.ensures c.own-bytes-own.ensures c.deref-mut.ensures.value in
-    (omega arith, (new_padded c.args.numbers (vec_items c.args.memory) _ e, tt))
+    let e = cleared _ _ _ _ _ _ is c.clear.ensures c.own_bytes-own.ensures c.deref_mut.ensures.value in
+    record { long = omega arith; padded = new_padded c.args.numbers (vec_items c.args.memory) _ e }
 
 pub returns : goal.returns
 returns c =
     let is : vec_items (with_items c.args.memory c.clear.new.bytes) ≡ c.clear.new.bytes = with_items_is c.args.memory c.clear.new.bytes (search rules) in
-    let e = cleared _ _ _ _ _ _ is c.clear.ensures c.own-bytes-own.ensures c.deref-mut.ensures.value in
+    let e = cleared _ _ _ _ _ _ is c.clear.ensures c.own_bytes-own.ensures c.deref_mut.ensures.value in
     (not_refused c.args.numbers _ (omega arith), new_bitmap c.args.numbers (vec_items c.args.memory) _ e)

@@ -1,4 +1,4 @@
-use Rattle.std.proofs.Common.{◌≡◌, ◌-◌, ◌<◌, ◌≤◌, ◌∷◌, ◌++◌, length, get_or, take, drop, sym, refl, ap, ◌∙◌, arith}
+use Rattle.std.proofs.Common.{◌++◌, get_or, take, drop, sym, ap, ◌∙◌, arith}
 use Rattle.std.specs.List.{insert}
 use Rattle.std.proofs.lemmas.List.{length-take-le, get_or-take}
 use Rattle.runs.specs.Rows.{run, cleared, trimmed}
@@ -36,7 +36,7 @@ returns-then-first-a c =
     let d = clear_left c.args.a c.args.b k j (get_or s k (run 0 0)).first xs (omega arith) c.ends-k.ensures (omega arith) (ap (λ x. x.first) (sym f)) c.if-first-a.true in
     let l = row_length xs (cleared c.args.a c.args.b xs) ts k j x (omega arith) (omega arith) (length_trimmed c.args.b (drop j xs)) d in (
       c.insert.ensures
-          ∙ ap (λ z. insert z k x) (c.cut-out.ensures ∙ ap (λ z. take k z ++ drop j z) c.trim.ensures ∙ cut_trimmed xs ts k j (omega arith) (omega arith))
+          ∙ ap (λ z. insert z k x) (c.cut_out.ensures ∙ ap (λ z. take k z ++ drop j z) c.trim.ensures ∙ cut_trimmed xs ts k j (omega arith) (omega arith))
           ∙ spliced xs ts k x (omega arith) ∙ sym d,
       omega arith,
     )
@@ -51,4 +51,4 @@ returns c =
     let n = length-take-le c.args.n s c.requires.0 in
     let f = get_or-take c.args.n s k (run 0 0) c.if-k-n.false in
     let d = clear_right c.args.a c.args.b k j (get_or s k (run 0 0)).first xs (omega arith) c.ends-k.ensures (omega arith) (ap (λ x. x.first) (sym f)) c.if-first-a.false in
-    (c.cut-out.ensures ∙ ap (λ z. take k z ++ drop j z) c.trim.ensures ∙ cut_trimmed xs ts k j (omega arith) (omega arith) ∙ sym d, omega arith)
+    (c.cut_out.ensures ∙ ap (λ z. take k z ++ drop j z) c.trim.ensures ∙ cut_trimmed xs ts k j (omega arith) (omega arith) ∙ sym d, omega arith)

@@ -1,4 +1,4 @@
-use Rattle.std.proofs.Common.{◌≡◌, ◌+◌, ◌-◌, ◌≤◌, length, take, drop, sym, ap, ◌∙◌, arith}
+use Rattle.std.proofs.Common.{◌+◌, ◌-◌, sym, arith}
 use Rattle.runs.proofs.Places.{put_row, put_within, part_room, part_front, moved_row, moved_within}
 use Rattle.runs.proofs.rows.write_part.Goals as goal
 
