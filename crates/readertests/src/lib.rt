@@ -3,6 +3,8 @@
 // `told` tells what reading a file answers: 0 and the number of commands, or a refusal's number and
 // place. Each table has files and what is told of them. The crate has nothing but tests.
 
+#![tactic(auto)]
+
 #[cfg(test)]
 mod tests {
     use commands::{CommandFault, count_commands};
