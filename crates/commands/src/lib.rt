@@ -7,6 +7,9 @@
 //
 // A refusal is a `CommandFault`, which carries a `TextFault` whole. specs/Files.antt says which
 // number, place and count each refusal tells (`command_told`), and what is read from which file.
+
+#![tactic(auto)]
+
 ghost use Rattle.std.specs.Prelude.{◌≡◌, ◌+◌, ◌^◌, ◌<◌, ◌≤◌, length};
 ghost use Rattle.commands.specs.Files.{Goes, command_at, count_commands, ended, format_after, is_end, longest_of, next_command, places_of, seen_read, told_command};
 ghost use Rattle.commands.specs.declared.CommandFault.TheVariants.{Text};

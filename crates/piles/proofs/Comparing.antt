@@ -1,13 +1,12 @@
 -- The laws of piles.
-use Rattle.std.proofs.Common.{◌≡◌, ℕ, ◌+◌, ◌-◌, ◌*◌, ◌/◌, ◌<◌, ◌≤◌, Bool, true, not, ◌&&◌, ℤ, pos, ◌+ℤ◌, sym, refl, ap, ◌∙◌, add_assoc, mul-add, arith}
+use Rattle.std.proofs.Common.{◌≡◌, ℕ, ◌+◌, ◌-◌, ◌*◌, ◌/◌, ◌≤◌, true, ℤ, pos, ◌+ℤ◌, sym, refl, ap, ◌∙◌, add_assoc, mul-add, arith}
 use Rattle.std.proofs.lemmas.Int.{ints}
 use Rattle.std.proofs.lemmas.Bool.Decides.{nat_tests}
 use Rattle.film.specs.Frame.{Frame, framed}
-use Rattle.film.specs.Film.{Meaning}
 use Rattle.film.specs.Made.{window_on}
 use Rattle.film.specs.declared.window.Window.{Window}
-use Rattle.piles.specs.Piles.{negated, mirrored, cut, cut_frame}
-use Rattle.piles.specs.Laws.{SameFilm, MirrorTwice, NegativeTwice, Exchange, CutTwice, SameCentres, joined}
+use Rattle.piles.specs.Piles.{cut, cut_frame}
+use Rattle.piles.specs.Laws.{MirrorTwice, NegativeTwice, Exchange, CutTwice, SameCentres, joined}
 
 pub mirror_twice : MirrorTwice
 mirror_twice m = record { frame = refl; pixels = λ c r h k. let e : m.frame.width - 1 - (m.frame.width - 1 - c) ≡ c = omega arith in ap (λ x. m.pixel x r) e }

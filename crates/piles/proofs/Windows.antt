@@ -1,19 +1,19 @@
 -- A window's numbers keep the limits, and a span of the window is a span below.
-use Rattle.std.proofs.Common.{◌≡◌, ℕ, ◌+◌, ◌-◌, ◌*◌, ◌/◌, ◌<◌, ◌≤◌, Bool, true, false, cond, not, ◌&&◌, eqb, ltb, leb, ◌∷◌, ℤ, pos, negsuc, ◌+ℤ◌, ◌≤ℤ◌, Ok, Err, Result, sym, refl, ap, ◌∙◌, subst, arith}
+use Rattle.std.proofs.Common.{◌≡◌, ℕ, ◌+◌, ◌-◌, ◌<◌, ◌≤◌, Bool, true, false, cond, not, ◌&&◌, eqb, ltb, leb, ◌∷◌, negsuc, ◌≤ℤ◌, Ok, Err, Result, sym, refl, ap, ◌∙◌, subst, arith}
 use mathlib.Core.Path.{fun_ext}
 use Rattle.std.proofs.lemmas.Nat.{mul-le}
 use Rattle.std.proofs.lemmas.Bool.{and_parts, ltb-true}
 use Rattle.std.proofs.lemmas.Int.{ints}
 use Rattle.std.proofs.lemmas.Bool.Decides.{nat_tests}
-use Rattle.film.specs.Frame.{Frame, Limits, in_limits, lowest, highest}
+use Rattle.film.specs.Frame.{Frame, Limits, in_limits, highest}
 use Rattle.film.specs.Faults.{Told, call}
-use Rattle.film.specs.Film.{Meaning, Beside, SpanWritten, span_on, in_span, spanned}
+use Rattle.film.specs.Film.{Meaning, Beside, SpanWritten, span_on, in_span}
 use Rattle.film.specs.Made.{window_on}
 use Rattle.film.specs.declared.window.Window.{Window}
-use Rattle.film.proofs.Limiting.{limits_of, limits_from, narrow, short}
+use Rattle.film.proofs.Limiting.{limits_of, narrow, short}
 use Rattle.piles.specs.Piles.{cut_frame, cut, cut_out, fitted, whole, in_window, hidden, outside, beside_cut}
 use Rattle.piles.specs.Cutting.{Fitted}
-use Rattle.piles.proofs.Comparing.{On, on_of, on_from, same_centres}
+use Rattle.piles.proofs.Comparing.{on_of, same_centres}
 
 -- a window's numbers keep the limits of the film's
 pub cut_limits : (f : Frame) (v : Window) → Limits f → window_on f v ≡ true → Limits (cut_frame v f)

@@ -1,10 +1,8 @@
 -- A span written below is written on the film over it.
-use Rattle.std.proofs.Common.{◌≡◌, ℕ, ◌+◌, ◌-◌, ◌*◌, ◌<◌, ◌≤◌, Bool, true, false, cond, not, ◌&&◌, eqb, ltb, leb, Ok, Err, Result, sym, refl, ap, ◌∙◌, arith}
-use mathlib.Core.Path.{fun_ext}
+use Rattle.std.proofs.Common.{◌≡◌, ℕ, Bool, cond, not, ◌&&◌, Result, ap, ◌∙◌, arith}
 use Rattle.std.proofs.lemmas.Bool.Decides.{nat_tests}
-use Rattle.film.specs.Frame.{Frame}
-use Rattle.film.specs.Faults.{Told, call}
-use Rattle.film.specs.Film.{Meaning, Beside, SpanWritten, span_on, in_span, spanned}
+use Rattle.film.specs.Faults.{Told}
+use Rattle.film.specs.Film.{Meaning, SpanWritten, span_on, in_span}
 use Rattle.piles.specs.Piles.{negated}
 
 turned : (b d o p : Bool) → o ≡ not d → not (cond b o p) ≡ cond b d (not p)

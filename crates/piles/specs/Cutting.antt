@@ -1,5 +1,5 @@
 -- Making a cut-out.
-use Rattle.std.specs.Prelude.{◌≡◌, ℕ, ◌+◌, ◌≤◌, Bool, true, false, Result, MatchResult}
+use Rattle.std.specs.Prelude.{◌≡◌, ◌+◌, ◌≤◌, true, false, Result, MatchResult}
 use Rattle.film.specs.Frame.{Frame}
 use Rattle.film.specs.Faults.{film_told, call}
 use Rattle.film.specs.Film.{Meaning}

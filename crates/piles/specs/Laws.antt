@@ -1,5 +1,5 @@
 -- How piles compare.
-use Rattle.std.specs.Prelude.{◌≡◌, ℕ, ◌+◌, ◌<◌, Bool, true}
+use Rattle.std.specs.Prelude.{◌≡◌, ℕ, ◌+◌, ◌<◌, true}
 use Rattle.film.specs.Frame.{Frame, centre_x, centre_y}
 use Rattle.film.specs.Film.{Meaning}
 use Rattle.film.specs.Made.{window_on}

@@ -1,5 +1,5 @@
 -- What a film over a film shows of the film m below.
-use Rattle.std.specs.Prelude.{◌≡◌, ℕ, ◌+◌, ◌-◌, ◌*◌, ◌≤◌, Bool, true, false, cond, not, ◌&&◌, ◌∷◌, pos, ◌+ℤ◌, nat_le, nat_lt}
+use Rattle.std.specs.Prelude.{ℕ, ◌+◌, ◌-◌, ◌*◌, Bool, cond, not, ◌&&◌, ◌∷◌, pos, ◌+ℤ◌, nat_le, nat_lt}
 use Rattle.film.specs.Frame.{Frame, framed}
 use Rattle.film.specs.Film.{Meaning, Beside}
 use Rattle.film.specs.Made.{window_on}

@@ -62,7 +62,7 @@ fn cut_numbers(n: Numbers, v: Window) -> Numbers
 impl<F: Film> CutOut<F> {
     // The window of a film, or the film again with the fault.
     pub fn new(below: F, window: Window) -> Result<CutOut<F>, Refused<F>>
-        ensures { CutMade (meaning below) below window result }
+        ensures { CutMade (F.meaning below) below window result }
     {
         if below.numbers().has(window) {
             Ok(CutOut { below, window })
@@ -82,7 +82,7 @@ impl<F: Film> CutOut<F> {
     }
 
     fn fitted_window(&self) -> Window
-        ensures { Fitted (meaning self.now.below).frame self.now.window result }
+        ensures { Fitted (F.meaning self.now.below).frame self.now.window result }
     {
         fitting(self.below.numbers(), self.window)
     }
@@ -96,9 +96,9 @@ impl<F: Film> CutOut<F> {
         end: u32,
         dark: bool,
     ) -> Result<(), FilmFault>
-        requires { (Fitted (meaning self.old.below).frame self.old.window v) × (span_on (cut_frame v (meaning self.old.below).frame) row first end ≡ true) }
-        ensures written { SpanWritten (cut_out self.old.window (meaning self.old.below)) row first end dark (answered result) (cut_out self.new.window (meaning self.new.below)) }
-        ensures beside { beside_cut self.new.window (meaning self.new.below) (beside self.new.below) ≡ beside_cut self.old.window (meaning self.old.below) (beside self.old.below) }
+        requires { (Fitted (F.meaning self.old.below).frame self.old.window v) × (span_on (cut_frame v (F.meaning self.old.below).frame) row first end ≡ true) }
+        ensures written { SpanWritten (cut_out self.old.window (F.meaning self.old.below)) row first end dark (answered result) (cut_out self.new.window (F.meaning self.new.below)) }
+        ensures beside { beside_cut self.new.window (F.meaning self.new.below) (F.beside self.new.below) ≡ beside_cut self.old.window (F.meaning self.old.below) (F.beside self.old.below) }
     {
         self.below
             .write_span(v.y + row, v.x + first, v.x + end, dark)

@@ -5,6 +5,8 @@
 // so they pile in any order and to any height, and are taken apart again.
 // What is written on a pile is written below, where the pile shows it, and nothing else is.
 // `laws` says how piles compare: a mirror's mirror is the film, and so on.
+#![tactic(auto)]
+
 pub mod cutout;
 pub mod cutting;
 pub mod laws;

@@ -33,8 +33,8 @@ impl<F: Film> Negative<F> {
         turned: bool,
     ) -> Result<(), FilmFault>
         requires { turned ≡ not dark }
-        ensures written { SpanWritten (negated (meaning self.old.below)) row first end dark (answered result) (negated (meaning self.new.below)) }
-        ensures beside { beside self.new.below ≡ beside self.old.below }
+        ensures written { SpanWritten (negated (F.meaning self.old.below)) row first end dark (answered result) (negated (F.meaning self.new.below)) }
+        ensures beside { F.beside self.new.below ≡ F.beside self.old.below }
     {
         self.below.write_span(row, first, end, turned)
     }

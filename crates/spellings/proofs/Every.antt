@@ -1,5 +1,5 @@
-use Rattle.std.proofs.Common.{◌≡◌, ℕ, true, false, cond, not, ◌&&◌, List, [], ◌∷◌, ◌++◌, ℤ, Some, None, codes, Option, refl, subst}
-use Rattle.forms.specs.Extended.{and_then, begins, closed, extended_of, is}
+use Rattle.std.proofs.Common.{◌≡◌, ℕ, true, not, ◌&&◌, [], ◌++◌, ℤ, Some, None, codes, Option, refl, subst}
+use Rattle.forms.specs.Extended.{begins, extended_of, is}
 use Rattle.forms.specs.Forms.{form_of}
 use Rattle.forms.specs.Numbers.{Then, Valued, after, leads, past}
 use Rattle.forms.specs.Orders as order
@@ -9,8 +9,8 @@ use Rattle.forms.specs.declared.Mode.TheVariants.{Clockwise, Counterclockwise, L
 use Rattle.numerals.specs.Numerals.{code_number, coordinate_value}
 use Rattle.spellings.proofs.Options.{and_then_some, closed_some, cond_some, is_none, mapped_some, never, same}
 use Rattle.spellings.proofs.Spelt.{after_tiles, extended, fixed}
-use Rattle.spellings.proofs.Tiles.{Tiles, end, head, join, nothing, spelled, whole_letters, whole_part}
-use Rattle.spellings.specs.Spellings.{Bit, Spelled, lettered, letters, maybe, part}
+use Rattle.spellings.proofs.Tiles.{Tiles, head, join, nothing, spelled, whole_letters, whole_part}
+use Rattle.spellings.specs.Spellings.{Spelled, maybe}
 use Rattle.std.proofs.lemmas.Bool.{and_parts}
 use Rattle.std.specs.Option as options
 use Rattle.words.specs.Words.{Piece, WordSeen}

@@ -1,11 +1,11 @@
-use Rattle.std.proofs.Common.{◌≡◌, ℕ, ◌+◌, true, false, cond, ◌&&◌, eqb, leb, List, [], ◌∷◌, ◌++◌, length, get_or, Some, None, codes, Option, sym, refl, ap, ◌∙◌, subst, arith}
-use Rattle.forms.specs.Extended.{Sides, agrees, and_then, aperture_of, attribute_of, begins, block_of, circle_of, closed, extended_of, format_digits, format_of, is, mirror_of, obround_of, polarity_of, rectangle_of, repeat_of, shape_of, sides_of, unit_of}
+use Rattle.std.proofs.Common.{◌≡◌, ℕ, ◌+◌, true, false, ◌&&◌, eqb, leb, List, [], ◌∷◌, ◌++◌, length, get_or, Some, None, codes, Option, sym, refl, ap, ◌∙◌, subst, arith}
+use Rattle.forms.specs.Extended.{Sides, agrees, aperture_of, attribute_of, begins, block_of, circle_of, closed, extended_of, format_digits, format_of, is, mirror_of, obround_of, polarity_of, rectangle_of, repeat_of, shape_of, sides_of, unit_of}
 use Rattle.forms.specs.Numbers.{Then, Valued, after, leads, lettered as split_lettered, numeral, past}
 use Rattle.forms.specs.Orders as order
 use Rattle.forms.specs.Orders.{Order}
 use Rattle.numerals.specs.Numerals.{code_number, count_number, size_millionths}
 use Rattle.spellings.proofs.Options.{and_then_some, closed_some, cond_some, mapped_some, never, no_bytes, same}
-use Rattle.spellings.proofs.Tiles.{Tiles, end, head, join, nothing, numeral_tiles, spelled, whole_letters, whole_part}
+use Rattle.spellings.proofs.Tiles.{Tiles, end, head, join, numeral_tiles, spelled, whole_letters, whole_part}
 use Rattle.spellings.specs.Spellings.{Bit, Spelled, lettered, letters, part}
 use Rattle.std.proofs.lemmas.List.{append-nil}
 use Rattle.std.proofs.lemmas.Bool.{and_from, and_parts, eqb-true}

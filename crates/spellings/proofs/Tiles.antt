@@ -1,13 +1,12 @@
-use Rattle.std.proofs.Common.{◌≡◌, ℕ, suc, ◌+◌, ◌-◌, ◌≤◌, true, eqb, leb, List, [], ◌∷◌, ◌++◌, length, get_or, take, drop, sym, refl, ap, ◌∙◌, subst, add-zero, zero-add, arith}
+use Rattle.std.proofs.Common.{◌≡◌, ℕ, suc, ◌+◌, ◌-◌, ◌≤◌, true, eqb, leb, List, [], ◌∷◌, ◌++◌, length, get_or, take, drop, sym, refl, ap, ◌∙◌, subst, add-zero, arith}
 use Rattle.forms.specs.Extended.{agrees, begins, is}
-use Rattle.forms.specs.Numbers.{Then, front, is_numeral, leads, numeral, numeral_run, past}
+use Rattle.forms.specs.Numbers.{is_numeral, numeral, numeral_run, past}
 use Rattle.forms.specs.Orders.{Order}
 use Rattle.spellings.specs.Spellings.{Bit, Placed, Spelled, bytes, letters, part, spelling, written}
 use Rattle.std.proofs.lemmas.List.{append_assoc, append-nil, drop_all, drop_more, length-append, length-take-le, take-append-drop, take_rest}
 use Rattle.std.proofs.lemmas.List.Sums.{prefix_len-le-length}
-use Rattle.std.proofs.lemmas.Bool.{and_from, and_parts, eqb-true, leb-true}
+use Rattle.std.proofs.lemmas.Bool.{and_parts, eqb-true, leb-true}
 use Rattle.words.specs.Words.{Piece}
-use native.Mathlib.Nat.{sub-zero}
 
 -- c is the bits bs, written in order, and then d
 pub record Tiles (c : Piece) (bs : List Bit) (d : Piece) : Type 0 where

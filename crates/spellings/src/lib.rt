@@ -6,6 +6,9 @@
 // where it says.
 //
 // specs/Spellings.antt has how each command is written, and the law.
+
+#![tactic(auto)]
+
 ghost use Rattle.spellings.specs.Spellings.{CommandsAreTheirParts};
 
 // The law, of every word that has a form.

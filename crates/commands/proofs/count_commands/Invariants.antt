@@ -1,4 +1,4 @@
-use Rattle.std.proofs.Common.{◌≡◌, suc, ◌+◌, ◌-◌, ◌≤◌, length}
+use Rattle.std.proofs.Common.{◌≡◌, suc, ◌-◌, ◌≤◌, length}
 use Rattle.commands.specs.Files.{run, count_commands}
 use Rattle.commands.proofs.count_commands.Given as goal
 

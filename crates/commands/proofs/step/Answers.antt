@@ -3,4 +3,4 @@ use Rattle.commands.proofs.step.Goals as goal
 
 pub returns : goal.returns
 unfolding command_at
-returns c = c.next-command.ensures
+returns c = c.next_command.ensures

@@ -1,4 +1,4 @@
-use Rattle.std.proofs.Common.{◌≡◌, ◌-◌, ◌*◌, ℤ, pos, ◌+ℤ◌, ap, arith, w32, to_z, of_z}
+use Rattle.std.proofs.Common.{◌≡◌, ◌-◌, ◌*◌, pos, ◌+ℤ◌, ap, arith, w32, to_z, of_z}
 use Rattle.std.proofs.lemmas.Int.{ints}
 use Rattle.film.specs.Made.{frame_of}
 use Rattle.film.proofs.Limiting.{limits_of, limits_from, narrow, short}
@@ -21,13 +21,13 @@ shifted-oy-requires c =
     let y = origin_y f l in
     (l.most, (omega (arith, short f l), (omega (arith, ints, y.0, y.1), omega (arith, ints, y.0, y.1))))
 
-pub invariant-of-result : goal.invariant-of-result
-invariant-of-result c =
+pub invariant_of-result : goal.invariant_of-result
+invariant_of-result c =
     let n = c.args.n in
     let v = c.args.v in
     let f = frame_of n in
     let l = limits_of f n.ok in
     let k = limits_from _ (cut_limits f v l c.requires) in
     let x : to_z w32 (of_z w32 c.shifted-ox.result) ≡ n.ox +ℤ pos (n.pitch * v.x) = let o = origin_x f l in omega (arith, ints, o.0, o.1) in
-    let y : to_z w32 (of_z w32 c.shifted-oy.result) ≡ n.oy +ℤ pos (n.pitch * (n.height - v.y - v.height)) = let o = origin_y f l in let k = ap (λ r. n.pitch * r) c.rows-below.ensures in omega (arith, ints, o.0, o.1) in
-    (simp (x, y) k, tt)
+    let y : to_z w32 (of_z w32 c.shifted-oy.result) ≡ n.oy +ℤ pos (n.pitch * (n.height - v.y - v.height)) = let o = origin_y f l in let k = ap (λ r. n.pitch * r) c.rows_below.ensures in omega (arith, ints, o.0, o.1) in
+    record { ok = simp (x, y) k }

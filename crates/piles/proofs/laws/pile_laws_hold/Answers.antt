@@ -4,10 +4,10 @@ use Rattle.piles.proofs.laws.pile_laws_hold.Goals as goal
 
 pub returns : goal.returns
 returns c = record {
-  mirror-of-mirror = mirror_twice;
-  negative-of-negative = negative_twice;
-  mirror-and-negative-exchange = exchange;
-  cut-out-of-cut-out = cut_twice;
-  cut-out-keeps-centres = same_centres;
+  mirror_of_mirror = mirror_twice;
+  negative_of_negative = negative_twice;
+  mirror_and_negative_exchange = exchange;
+  cut_out_of_cut_out = cut_twice;
+  cut_out_keeps_centres = same_centres;
   value = refl;
 }
