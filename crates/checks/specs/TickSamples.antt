@@ -1,5 +1,5 @@
 -- worked examples of numbers brought to ticks
-use Rattle.std.specs.Prelude.{ℕ, Bool, List, [], ◌∷◌, pos, neg_ℤ, ◌==◌}
+use Rattle.std.specs.Prelude.{Bool, List, [], ◌∷◌, pos, neg_ℤ, ◌==◌}
 use Rattle.plane.specs.Plane.{eq_z}
 use Rattle.ticks.specs.Ticks.{half_ticks, to_ticks}
 use Rattle.ticks.specs.declared.Decimals.TheVariants.{Four, Six}

@@ -7,6 +7,8 @@
 // The tests run the code itself on the same examples, and at the ends of the ranges: the farthest points and places and
 // the greatest halves. They stand here, since a crate with tests is proved twice.
 
+#![tactic(auto)]
+
 ghost use Rattle.std.specs.Prelude.{◌≡◌, true};
 ghost use Rattle.checks.specs.Samples.{all_true, samples};
 

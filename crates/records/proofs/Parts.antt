@@ -1,5 +1,5 @@
-use Rattle.std.proofs.Common.{◌≡◌, ℕ, ◌+◌, ◌-◌, ◌<◌, ◌≤◌, min, Bool, true, false, cond, List, [], ◌∷◌, map, length, get_or, take, drop, sym, refl, ap, ◌∙◌, arith}
-use Rattle.records.specs.Records.{ObjectSeen, seen_object}
+use Rattle.std.proofs.Common.{◌≡◌, ℕ, ◌+◌, ◌-◌, ◌<◌, ◌≤◌, Bool, true, false, cond, List, [], ◌∷◌, map, length, get_or, take, drop, sym, refl, ap, ◌∙◌, arith}
+use Rattle.records.specs.Records.{seen_object}
 use Rattle.records.specs.Weights.{owned_by, owned_from}
 use Rattle.records.specs.declared.kinds.Object.{Object}
 use Rattle.std.proofs.lemmas.List.{drop_all, drop-map, length-map, take-map}

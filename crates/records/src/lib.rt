@@ -7,5 +7,8 @@
 //
 // `weigh_aperture` tells how deep blocks are nested in a block and how many objects a flash of it lays.
 // specs/Records.antt has the records as plain values, specs/Weights.antt depth and laid count.
+
+#![tactic(auto)]
+
 pub mod kinds;
 pub mod weights;

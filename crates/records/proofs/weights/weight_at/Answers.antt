@@ -1,4 +1,4 @@
-use Rattle.std.proofs.Common.{suc, ◌+◌, List, map, get_or, sym, ap, ◌∙◌, add-one, arith}
+use Rattle.std.proofs.Common.{◌+◌, List, map, get_or, sym, ap, ◌∙◌, add-one, arith}
 use Rattle.records.proofs.Caps.{get_or_capped}
 use Rattle.records.proofs.weights.weight_at.Goals as goal
 use Rattle.records.specs.Records.{seen_aperture, seen_object}

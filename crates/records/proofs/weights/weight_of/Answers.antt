@@ -1,4 +1,4 @@
-use Rattle.std.proofs.Common.{ℕ, List, map, arith}
+use Rattle.std.proofs.Common.{List, map, arith}
 use Rattle.records.proofs.Turns.{depth_more, laid_more}
 use Rattle.records.proofs.weights.weight_of.Goals as goal
 use Rattle.records.specs.Records.{seen_object}
