@@ -2,5 +2,7 @@
 //
 // A film here is 8 by 4 pixels, so that a row is one byte and a picture four of them. The films'
 // proofs say more than these tests; they show the calls at work, on the compiled code.
+#![tactic(auto)]
+
 #[cfg(test)]
 mod tests;

@@ -144,7 +144,7 @@ fn films_over_films(rt: HostRuntime) -> Result<(), Fail> {
     let film = piles(&rt, bitmap(rt.alloc())?)?;
     assert_eq!(rt;
         film.into_memory().as_slice(),
-        &[0, 0b0100_1110, 0b0000_0010, 0b0001_1000, 0xFF, 0xFF]
+        [0, 0b0100_1110, 0b0000_0010, 0b0001_1000, 0xFF, 0xFF].as_slice()
     );
     let film = piles(&rt, run_film(rt.alloc())?)?;
     for (x, y, width, height) in [(0, 0, 0, 4), (0, 0, 8, 0), (1, 0, 8, 4), (0, 4, 8, 1)] {
@@ -158,7 +158,7 @@ fn films_over_films(rt: HostRuntime) -> Result<(), Fail> {
         );
     }
     let (counts, _) = film.into_memory();
-    assert_eq!(rt; counts.as_slice(), &[0, 2, 1, 1, 7]);
+    assert_eq!(rt; counts.as_slice(), [0, 2, 1, 1, 7].as_slice());
     Ok(())
 }
 
@@ -187,11 +187,11 @@ fn bare_films(rt: HostRuntime) -> Result<(), Fail> {
     draws(&rt, &mut film);
     assert_eq!(rt;
         film.into_memory().as_slice(),
-        &[0b0100_0010, 0, 0, 0x7F, 0xFF, 0xFF]
+        [0b0100_0010, 0, 0, 0x7F, 0xFF, 0xFF].as_slice()
     );
     let mut film = run_film(rt.alloc())?;
     draws(&rt, &mut film);
     let (counts, _) = film.into_memory();
-    assert_eq!(rt; counts.as_slice(), &[2, 0, 0, 1, 7]);
+    assert_eq!(rt; counts.as_slice(), [2, 0, 0, 1, 7].as_slice());
     Ok(())
 }
