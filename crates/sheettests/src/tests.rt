@@ -177,7 +177,7 @@ fn rows_in_turn(rt: HostRuntime) -> Result<(), Fail> {
     let mut out = [0xAAu8; 9];
     let length = one_row(&rt, &film, &bitmap(rt.alloc(), 9, 1)?, &mut out)?;
     assert_eq!(rt; length, 8);
-    assert_eq!(rt; &out[..], b"P4\n8 1\n\x80\xAA");
+    assert_eq!(rt; &out[..], b"P4\n8 1\n\x80\xAA".as_slice());
     Ok(())
 }
 
