@@ -1,5 +1,7 @@
 // Tests of painting: shapes on films, bare and piled, within windows. The crate has nothing but tests.
 
+#![tactic(auto)]
+
 #[cfg(test)]
 mod tests {
     use bitmap::bitmap::Bitmap;
