@@ -1,5 +1,5 @@
 -- the search for an aperture's code
-use Rattle.std.proofs.Common.{◌≡◌, ℕ, ◌+◌, ◌<◌, ◌≤◌, Bool, true, false, cond, eqb, List, map, length, get_or, drop, Some, None, Option, sym, ap, ◌∙◌, eq-eqb, ne_eqb}
+use Rattle.std.proofs.Common.{◌≡◌, ℕ, ◌+◌, ◌<◌, ◌≤◌, Bool, cond, eqb, List, map, length, get_or, drop, Some, None, sym, ap, ◌∙◌, eq-eqb, ne_eqb}
 use Rattle.records.specs.Records.{seen_aperture}
 use Rattle.records.specs.declared.kinds.Aperture.{Aperture}
 use Rattle.rules.specs.Rules.{number_from}

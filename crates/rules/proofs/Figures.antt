@@ -1,5 +1,5 @@
 -- the figure of an aperture by its number
-use Rattle.std.proofs.Common.{◌≡◌, ℕ, ◌<◌, ◌≤◌, List, map, length, get_or, Some, None, Ok, Err, Option, Result, sym, ap, ◌∙◌, arith}
+use Rattle.std.proofs.Common.{◌≡◌, ℕ, ◌<◌, ◌≤◌, List, map, length, get_or, Some, Ok, Err, Option, Result, sym, ap, ◌∙◌, arith}
 use Rattle.records.specs.Records.{ApertureSeen, FigureSeen, seen_aperture, seen_figure}
 use Rattle.records.specs.declared.kinds.Aperture.{Aperture}
 use Rattle.rules.specs.Rules.{figure_at, wanted}

@@ -7,7 +7,6 @@ use Rattle.forms.specs.declared.Format.{Format}
 use Rattle.forms.specs.declared.Mode.TheVariants.{Clockwise, Counterclockwise, Linear}
 use Rattle.forms.specs.declared.Mode.{Mode}
 use Rattle.forms.specs.declared.Polarity.TheVariants.{Dark}
-use Rattle.forms.specs.declared.Polarity.{Polarity}
 use Rattle.plane.specs.Plane.{At, cross_of, dot_of, eq_z, moved, norm_of, same, spot, way}
 use Rattle.records.specs.Records as seen
 use Rattle.records.specs.Records.{ApertureSeen, FigureSeen, OutlineSeen}

@@ -8,6 +8,9 @@
 //
 // specs/Rules.antt has the rules, one definition for each, over the plain values of specs/States.antt;
 // specs/Settings.antt has the state with another part.
+
+#![tactic(auto)]
+
 mod apertures;
 mod arcs;
 pub mod decision;

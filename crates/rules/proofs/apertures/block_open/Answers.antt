@@ -1,4 +1,3 @@
-use Rattle.records.specs.Records.{seen_aperture}
 use Rattle.rules.proofs.apertures.block_open.Goals as goal
 use Rattle.std.proofs.lemmas.List.{length-map}
 
