@@ -7,6 +7,9 @@
 //
 // specs/Books.antt has what one command adds to the records, specs/Reading.antt a whole file,
 // specs/Answers.antt the answer and what the slots then hold.
+
+#![tactic(auto)]
+
 pub mod fault;
 pub mod reading;
 mod running;

@@ -22,10 +22,10 @@ pub returns-in_err-progress : goal.returns-in_err-progress
 returns-in_err-progress c =
     let l = c.loop-progress in
     let e = c.in_err-progress.ensures in
-    let p = err_from_is_err_and c.from-residual.result c.from-residual.ensures.1 in
+    let p = err_from_is_err_and c.from_residual.result c.from_residual.ensures.1 in
     let u = from_start c.args.file.now c.args.apertures.now c.args.objects.now c.args.pieces.now in
     let room = rooms_of c.args.apertures.now c.args.objects.now c.args.pieces.now in
     record {
       kept = kept_all l.invariant.0 e.kept;
-      comes = stop c.args.file.now room l.apertures l.objects l.pieces (rooms_kept l.invariant.0) u l.progress l.invariant.1 (not-true l.progress.last c.loop-progress-test.true) _ _ _ _ c.from-residual.result e (p.1 ∙ ap Err p.2);
+      comes = stop c.args.file.now room l.apertures l.objects l.pieces (rooms_kept l.invariant.0) u l.progress l.invariant.1 (not-true l.progress.last c.loop-progress-test.true) _ _ _ _ c.from_residual.result e (p.1 ∙ ap Err p.2);
     }
