@@ -1,10 +1,8 @@
 -- which blocks are entered
-use Rattle.std.proofs.Common.{◌≡◌, ℕ, zero, suc, ◌<◌, ◌≤◌, Bool, true, false, cond, ltb, List, [], map, length, get_or, Some, None, Option, sym, refl, ap, ◌∙◌, subst, arith}
+use Rattle.std.proofs.Common.{◌≡◌, ℕ, zero, suc, ◌<◌, ◌≤◌, Bool, true, false, cond, ltb, List, [], map, length, get_or, None, Option, sym, refl, ap, ◌∙◌, subst, arith}
 use Rattle.laid.proofs.Nothing.{weighs_nothing}
-use Rattle.laid.specs.Laid.{LaidObject, block_objects, lay_all, lay_block, objects_in}
-use Rattle.laid.specs.Puts.{Put}
+use Rattle.laid.specs.Laid.{LaidObject, lay_all, lay_block, objects_in}
 use Rattle.laid.specs.Stacks.{EnteredAt, first_in}
-use Rattle.plane.specs.Plane.{At}
 use Rattle.records.specs.Records as seen
 use Rattle.records.specs.Records.{ApertureSeen, FigureSeen, ObjectSeen, seen_aperture}
 use Rattle.records.specs.Weights.{figure_at, none, or_nothing, weight_told}

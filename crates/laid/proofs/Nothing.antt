@@ -1,5 +1,5 @@
 -- a block whose laid count is 0 lays nothing
-use Rattle.std.proofs.Common.{◌≡◌, ℕ, zero, suc, ◌+◌, ◌<◌, ◌≤◌, min, Bool, true, false, cond, not, ◌&&◌, ltb, List, [], ◌∷◌, ◌++◌, length, get_or, Some, None, sym, refl, ap, ◌∙◌, ⊎_elim, arith}
+use Rattle.std.proofs.Common.{◌≡◌, ℕ, zero, suc, ◌<◌, ◌≤◌, min, Bool, true, false, cond, not, ◌&&◌, ltb, List, [], ◌∷◌, ◌++◌, length, get_or, Some, None, sym, refl, ap, ◌∙◌, ⊎_elim, arith}
 use Rattle.forms.specs.declared.Polarity.{Polarity}
 use Rattle.laid.specs.Laid.{LaidObject, is_dark, lay_all, lay_block, lay_outline, objects_in}
 use Rattle.laid.specs.Puts.{Put, composed, flashed_at}

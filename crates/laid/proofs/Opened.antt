@@ -1,16 +1,14 @@
 -- what the frame of a block lays
-use Rattle.std.proofs.Common.{◌≡◌, ℕ, suc, ◌+◌, ◌<◌, Bool, true, cond, not, ltb, List, [], Some, sym, refl, ap, ◌∙◌}
-use Rattle.laid.specs.Laid.{LaidObject, is_dark, lay_all, lay_block, lay_outline, objects_in}
+use Rattle.std.proofs.Common.{◌≡◌, ℕ, suc, ◌+◌, Bool, cond, not, List, [], Some, sym, ap, ◌∙◌}
+use Rattle.laid.specs.Laid.{is_dark, lay_all, lay_block, lay_outline, objects_in}
 use Rattle.laid.specs.Puts.{Put, composed, flashed_at, seen_placing}
-use Rattle.laid.specs.Stacks.{EnteredAt, FlashOf, FrameOf, lay_frame, lays_whole, turns_all, turns_block, turns_frame, turns_outline}
+use Rattle.laid.specs.Stacks.{EnteredAt, FlashOf, FrameOf, turns_all, turns_block, turns_outline}
 use Rattle.laid.specs.declared.kinds.Flash.{Flash}
 use Rattle.laid.specs.declared.kinds.Frame.{Frame}
 use Rattle.laid.specs.declared.kinds.PlacedObject.{PlacedObject}
-use Rattle.plane.specs.Plane.{At}
 use Rattle.plane.specs.Points.{file_point_at}
-use Rattle.records.specs.Records as seen
-use Rattle.records.specs.Records.{ApertureSeen, FigureSeen, ObjectSeen, OutlineSeen, seen_object, seen_outline}
-use Rattle.records.specs.Weights.{figure_at, owned_from}
+use Rattle.records.specs.Records.{ApertureSeen, FigureSeen, ObjectSeen, seen_outline}
+use Rattle.records.specs.Weights.{owned_from}
 use Rattle.std.proofs.lemmas.Bool.{lt-ltb}
 
 module _ (aps : List ApertureSeen) (os : List ObjectSeen) (k : ℕ) (p : PlacedObject) (f : Flash) (is : FlashOf (seen_outline p.object.outline) (Some f)) where

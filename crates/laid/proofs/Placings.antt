@@ -1,11 +1,9 @@
 -- placings, one within another
 use Rattle.contour.specs.Chain.{differ}
 use Rattle.laid.specs.Laws.{PlacingsCompose}
-use Rattle.laid.specs.Puts.{Put}
 use Rattle.plane.specs.Placed.{turned}
-use Rattle.plane.specs.Plane.{At, spot}
 use Rattle.std.proofs.lemmas.Int.{ints}
-use Rattle.std.proofs.Common.{◌≡◌, Bool, true, false, ℤ, ◌+ℤ◌, ap, ◌∙◌, arith}
+use Rattle.std.proofs.Common.{◌≡◌, Bool, true, false, ℤ, ◌+ℤ◌, arith}
 
 turned_twice : (o i : Bool) (z at d : ℤ) → turned (differ o i) z +ℤ (turned o at +ℤ d) ≡ turned o (turned i z +ℤ at) +ℤ d
 turned_twice true true z at d = omega (arith, ints)

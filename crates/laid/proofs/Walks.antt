@@ -1,9 +1,9 @@
 -- what is left to lay, as frames are opened, moved on and closed
-use Rattle.std.proofs.Common.{◌≡◌, ℕ, zero, suc, ◌+◌, ◌-◌, ◌<◌, ◌≤◌, Bool, true, false, cond, ltb, ◌≢◌, List, [], ◌∷◌, ◌++◌, length, get_or, set, Some, None, Option, sym, refl, ap, ◌∙◌, subst, add-one, arith}
+use Rattle.std.proofs.Common.{◌≡◌, ℕ, zero, suc, ◌+◌, ◌-◌, ◌<◌, ◌≤◌, Bool, true, false, cond, ltb, ◌≢◌, List, [], ◌++◌, length, get_or, set, Some, None, Option, sym, refl, ap, ◌∙◌, subst, add-one, arith}
 use Rattle.laid.specs.Frames.{idle}
 use Rattle.laid.specs.Laid.{LaidObject, lay_all, lay_block, lay_one, lay_outline}
 use Rattle.laid.specs.Puts.{Put, seen_placing, shifted}
-use Rattle.laid.specs.Stacks.{Begun, FlashOf, FrameOf, NextOf, StepOf, TakenUp, Turned, apertures_of, is_plain, lay_frame, lay_frames, lays_one, lays_whole, left, listed, objects_of, pieces_in, turns_all, turns_block, turns_frame, turns_frames, turns_left, turns_outline}
+use Rattle.laid.specs.Stacks.{Begun, FlashOf, FrameOf, NextOf, StepOf, TakenUp, Turned, apertures_of, is_plain, lay_frame, lay_frames, lays_whole, left, objects_of, pieces_in, turns_all, turns_block, turns_frame, turns_frames, turns_left, turns_outline}
 use Rattle.laid.specs.declared.drawing.Drawing.{Drawing}
 use Rattle.laid.specs.declared.kinds.Flash.{Flash}
 use Rattle.laid.specs.declared.kinds.Frame.{Frame}
@@ -17,7 +17,7 @@ use Rattle.records.specs.Records as seen
 use Rattle.records.specs.Records.{ApertureSeen, ObjectSeen, OutlineSeen, seen_object, seen_outline}
 use Rattle.records.specs.Weights.{owned_from}
 use Rattle.records.specs.declared.kinds.Object.{Object}
-use Rattle.std.proofs.lemmas.List.{append_assoc, append-nil, get_or-set_other, get_or-set_same, length-set}
+use Rattle.std.proofs.lemmas.List.{append_assoc, append-nil, get_or-set_other, get_or-set_same}
 use Rattle.std.proofs.lemmas.Bool.{ltb-false}
 
 -- a stack that is not busy has nothing left to lay

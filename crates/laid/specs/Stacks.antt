@@ -1,6 +1,5 @@
 -- What the blocks that are being laid have still to lay, and how many turns that takes.
-use Rattle.std.specs.Prelude.{◌≡◌, ℕ, zero, suc, ◌+◌, ◌-◌, ◌<◌, ◌≤◌, Bool, true, false, cond, List, [], ◌∷◌, ◌++◌, map, Some, None, Option, nat_lt, slice_index_or}
-use Rattle.contour.specs.declared.pieces.Piece.{Piece}
+use Rattle.std.specs.Prelude.{◌≡◌, ℕ, zero, suc, ◌+◌, ◌-◌, ◌<◌, Bool, true, false, cond, List, [], ◌∷◌, ◌++◌, map, Some, None, Option, nat_lt, slice_index_or}
 use Rattle.laid.specs.Frames.{idle}
 use Rattle.laid.specs.Laid.{LaidObject, block_objects, lay_all, lay_block, lay_one}
 use Rattle.laid.specs.Puts.{Put, seen_placing, shifted}

@@ -9,6 +9,8 @@
 //
 // specs/Laid.antt defines the list from the records, specs/Puts.antt how points are placed,
 // specs/Covered.antt what the objects leave on a film, and specs/Stacks.antt what a stack has left.
+#![tactic(auto)]
+
 mod compose;
 pub mod drawing;
 pub mod drawings;

@@ -1,4 +1,4 @@
-use Rattle.std.proofs.Common.{◌≡◌, ◌-◌, ◌<◌, length, get_or, refl, ap, arith, rules}
+use Rattle.std.proofs.Common.{◌-◌, ◌<◌, length, get_or, refl, ap, arith, rules}
 use Rattle.laid.proofs.Walks.{closes_top, moves_top}
 use Rattle.laid.proofs.stack.Stack.turn.Goals as goal
 use Rattle.laid.specs.Frames.{idle}
