@@ -4,7 +4,7 @@ use Rattle.film.specs.Film.{Beside, Meaning}
 use Rattle.film.specs.Frame.{Frame, centre_x, centre_y}
 use Rattle.film.specs.Made.{window_on}
 use Rattle.film.specs.declared.window.Window.{Window}
-use Rattle.laid.specs.Covered.{LaidOn, covers_pixel, covers_point, shown_by}
+use Rattle.laid.specs.Covered.{covers_pixel, covers_point, shown_by}
 use Rattle.laid.specs.Laid.{LaidObject, LaidOutline}
 use Rattle.laying.specs.Lays.{Exposed, Lays, single}
 use Rattle.paint.specs.Painted.{in_window}

@@ -1,5 +1,5 @@
 -- objects, copies and columns, one after another
-use Rattle.std.proofs.Common.{◌≡◌, ℕ, ◌+◌, ◌*◌, ◌<◌, ◌≤◌, Bool, true, false, cond, List, [], ◌++◌, map, length, get_or, drop, Some, None, sym, refl, ap, ◌∙◌, add-one}
+use Rattle.std.proofs.Common.{◌≡◌, ℕ, ◌+◌, ◌*◌, ◌<◌, ◌≤◌, Bool, false, cond, List, [], ◌++◌, map, length, get_or, drop, Some, None, sym, refl, ap, ◌∙◌, add-one}
 use Rattle.laid.specs.Laid.{LaidObject, laid_objects, lay_all, lay_block, lay_from, lay_one, lay_owned, repeat_objects, up_to}
 use Rattle.laid.specs.Puts.{shifted}
 use Rattle.laid.specs.Shifts.{ShiftOf}

@@ -1,6 +1,6 @@
 -- the pieces of a contour
 use Rattle.std.proofs.Common.{◌≡◌, ℕ, zero, suc, ◌-◌, ◌<◌, ◌≤◌, Bool, true, false, cond, List, [], ◌∷◌, map, length, take, drop, ℤ, Some, None, Option, sym, refl, ap, ◌∙◌, arith}
-use Rattle.contour.specs.Chain.{contour_at, crossings, in_contour, last_of}
+use Rattle.contour.specs.Chain.{contour_at, in_contour, last_of}
 use Rattle.contour.specs.Closed.{closed_from, ends_at}
 use Rattle.contour.specs.declared.pieces.Piece.{Piece}
 use Rattle.contour.specs.Made.{Parts, made_contour, seen_contour}

@@ -39,8 +39,8 @@ fn lay_chain<F: Film>(
     start: FilePoint,
     dark: bool,
 )
-    requires { window_on (meaning film.old).frame window ≡ true }
-    ensures { Lays (meaning film.old) (beside film.old) window (single dark (laid.contour (put_at (seen_placing placing) (file_point_at start)) (map (put_at (seen_placing placing)) (laid.closed_only (file_point_at start) (map seen_piece pieces.now))))) (meaning film.new) (beside film.new) }
+    requires { window_on (F.meaning film.old).frame window ≡ true }
+    ensures { Lays (F.meaning film.old) (F.beside film.old) window (single dark (laid.contour (put_at (seen_placing placing) (file_point_at start)) (map (put_at (seen_placing placing)) (laid.closed_only (file_point_at start) (map seen_piece pieces.now))))) (F.meaning film.new) (F.beside film.new) }
 {
     let Some(contour) = Contour::new(start, pieces, placing) else {
         return;
@@ -58,8 +58,8 @@ pub(crate) fn lay_contour<F: Film>(
     count: usize,
     dark: bool,
 )
-    requires { window_on (meaning film.old).frame window ≡ true }
-    ensures { Lays (meaning film.old) (beside film.old) window (single dark (laid.contour (put_at (seen_placing placing) (file_point_at start)) (map (put_at (seen_placing placing)) (pieces_of (map seen_piece pieces.now) (file_point_at start) first count)))) (meaning film.new) (beside film.new) }
+    requires { window_on (F.meaning film.old).frame window ≡ true }
+    ensures { Lays (F.meaning film.old) (F.beside film.old) window (single dark (laid.contour (put_at (seen_placing placing) (file_point_at start)) (map (put_at (seen_placing placing)) (pieces_of (map seen_piece pieces.now) (file_point_at start) first count)))) (F.meaning film.new) (F.beside film.new) }
 {
     lay_chain(
         film,

@@ -9,8 +9,8 @@ use shapes::shape::Shape;
 
 // Paints a shape within a window that lies on the film.
 pub(crate) fn expose<F: Film, S: Shape>(film: &mut F, window: Window, shape: &S, dark: bool)
-    requires { window_on (meaning film.old).frame window ≡ true }
-    ensures { Exposed (meaning film.old) (beside film.old) window (covered shape.now) dark (meaning film.new) (beside film.new) }
+    requires { window_on (F.meaning film.old).frame window ≡ true }
+    ensures { Exposed (F.meaning film.old) (F.beside film.old) window (S.covered shape.now) dark (F.meaning film.new) (F.beside film.new) }
 {
     // The window lies on the film, so that this is not refused.
     let _ = paint(film, window, shape, dark);

@@ -20,8 +20,8 @@ use records::kinds::{Aperture, Object, Owner, Repeat};
 
 // Lays what the walk gives, if it gives anything.
 fn lay_given<F: Film>(film: &mut F, window: Window, drawing: &Drawing, given: Option<PlacedObject>)
-    requires { window_on (meaning film.old).frame window ≡ true }
-    ensures { Lays (meaning film.old) (beside film.old) window (listed drawing.now given) (meaning film.new) (beside film.new) }
+    requires { window_on (F.meaning film.old).frame window ≡ true }
+    ensures { Lays (F.meaning film.old) (F.beside film.old) window (listed drawing.now given) (F.meaning film.new) (F.beside film.new) }
 {
     if let Some(placed) = given {
         lay_object(film, window, drawing.pieces, placed);
@@ -30,8 +30,8 @@ fn lay_given<F: Film>(film: &mut F, window: Window, drawing: &Drawing, given: Op
 
 // Lays an object of the layer, moved by a shift: itself, or object by object the block that it flashes.
 fn lay_moved<F: Film>(film: &mut F, window: Window, drawing: &Drawing, object: Object, shift: Shift)
-    requires { window_on (meaning film.old).frame window ≡ true }
-    ensures { Lays (meaning film.old) (beside film.old) window (moved_object drawing.now shift object) (meaning film.new) (beside film.new) }
+    requires { window_on (F.meaning film.old).frame window ≡ true }
+    ensures { Lays (F.meaning film.old) (F.beside film.old) window (moved_object drawing.now shift object) (F.meaning film.new) (F.beside film.new) }
 {
     let mut stack = Stack::new();
     let begun = stack.begin(drawing, object, shift);
@@ -50,8 +50,8 @@ fn lay_group<F: Film>(
     objects: &[Object],
     shift: Shift,
 )
-    requires { window_on (meaning film.old).frame window ≡ true }
-    ensures { Lays (meaning film.old) (beside film.old) window (moved_objects drawing.now shift objects.now) (meaning film.new) (beside film.new) }
+    requires { window_on (F.meaning film.old).frame window ≡ true }
+    ensures { Lays (F.meaning film.old) (F.beside film.old) window (moved_objects drawing.now shift objects.now) (F.meaning film.new) (F.beside film.new) }
 {
     for object in objects {
         lay_moved(film, window, drawing, *object, shift);
@@ -67,8 +67,8 @@ fn lay_copy<F: Film>(
     a: u32,
     b: u32,
 )
-    requires { window_on (meaning film.old).frame window ≡ true }
-    ensures { Lays (meaning film.old) (beside film.old) window (copy_at drawing.now repeat a b) (meaning film.new) (beside film.new) }
+    requires { window_on (F.meaning film.old).frame window ≡ true }
+    ensures { Lays (F.meaning film.old) (F.beside film.old) window (copy_at drawing.now repeat a b) (F.meaning film.new) (F.beside film.new) }
 {
     let Some(shift) = Shift::of(repeat, a, b) else {
         return;
@@ -77,8 +77,8 @@ fn lay_copy<F: Film>(
 }
 
 fn lay_column<F: Film>(film: &mut F, window: Window, drawing: &Drawing, repeat: Repeat, a: u32)
-    requires { window_on (meaning film.old).frame window ≡ true }
-    ensures { Lays (meaning film.old) (beside film.old) window (column_at drawing.now repeat a) (meaning film.new) (beside film.new) }
+    requires { window_on (F.meaning film.old).frame window ≡ true }
+    ensures { Lays (F.meaning film.old) (F.beside film.old) window (column_at drawing.now repeat a) (F.meaning film.new) (F.beside film.new) }
 {
     for b in 0..repeat.rows {
         lay_copy(film, window, drawing, repeat, a, b);
@@ -87,8 +87,8 @@ fn lay_column<F: Film>(film: &mut F, window: Window, drawing: &Drawing, repeat: 
 
 // Lays all copies of a step and repeat.
 fn lay_repeat<F: Film>(film: &mut F, window: Window, drawing: &Drawing, repeat: Repeat)
-    requires { window_on (meaning film.old).frame window ≡ true }
-    ensures { Lays (meaning film.old) (beside film.old) window (all_copies drawing.now repeat) (meaning film.new) (beside film.new) }
+    requires { window_on (F.meaning film.old).frame window ≡ true }
+    ensures { Lays (F.meaning film.old) (F.beside film.old) window (all_copies drawing.now repeat) (F.meaning film.new) (F.beside film.new) }
 {
     for a in 0..repeat.columns {
         lay_column(film, window, drawing, repeat, a);
@@ -97,8 +97,8 @@ fn lay_repeat<F: Film>(film: &mut F, window: Window, drawing: &Drawing, repeat: 
 
 // Lays what the object with the number `i` stands for.
 fn lay_owned<F: Film>(film: &mut F, window: Window, drawing: &Drawing, i: usize, object: Object)
-    requires { window_on (meaning film.old).frame window ≡ true }
-    ensures { Lays (meaning film.old) (beside film.old) window (numbered drawing.now i object) (meaning film.new) (beside film.new) }
+    requires { window_on (F.meaning film.old).frame window ≡ true }
+    ensures { Lays (F.meaning film.old) (F.beside film.old) window (numbered drawing.now i object) (F.meaning film.new) (F.beside film.new) }
 {
     match object.owner {
         Owner::Layer => lay_moved(film, window, drawing, object, Shift::none()),
@@ -113,8 +113,8 @@ fn lay_owned<F: Film>(film: &mut F, window: Window, drawing: &Drawing, i: usize,
 
 // Lays all objects of a drawing.
 fn lay_drawing<F: Film>(film: &mut F, window: Window, drawing: &Drawing)
-    requires { window_on (meaning film.old).frame window ≡ true }
-    ensures { Lays (meaning film.old) (beside film.old) window (whole_of drawing.now) (meaning film.new) (beside film.new) }
+    requires { window_on (F.meaning film.old).frame window ≡ true }
+    ensures { Lays (F.meaning film.old) (F.beside film.old) window (whole_of drawing.now) (F.meaning film.new) (F.beside film.new) }
 {
     let objects: &[Object] = drawing.objects;
     for i in 0..objects.len() {
@@ -130,8 +130,8 @@ fn lay_records<'a, F: Film>(
     objects: &'a [Object],
     pieces: &'a [Piece],
 )
-    requires { window_on (meaning film.old).frame window ≡ true }
-    ensures { Lays (meaning film.old) (beside film.old) window (laid_objects (map seen_aperture apertures.now) (map seen_object objects.now) (map seen_piece pieces.now)) (meaning film.new) (beside film.new) }
+    requires { window_on (F.meaning film.old).frame window ≡ true }
+    ensures { Lays (F.meaning film.old) (F.beside film.old) window (laid_objects (map seen_aperture apertures.now) (map seen_object objects.now) (map seen_piece pieces.now)) (F.meaning film.new) (F.beside film.new) }
 {
     let drawing = Drawing::new(apertures, objects, pieces);
     lay_drawing(film, window, &drawing);
@@ -146,8 +146,8 @@ pub fn lay<F: Film>(
     objects: &[Object],
     pieces: &[Piece],
 ) -> Result<(), FilmFault>
-    ensures outcome { LayOutcome (meaning film.old) window (laid_objects (map seen_aperture apertures.now) (map seen_object objects.now) (map seen_piece pieces.now)) result (meaning film.new) }
-    ensures beside { beside film.new ≡ beside film.old }
+    ensures outcome { LayOutcome (F.meaning film.old) window (laid_objects (map seen_aperture apertures.now) (map seen_object objects.now) (map seen_piece pieces.now)) result (F.meaning film.new) }
+    ensures beside { F.beside film.new ≡ F.beside film.old }
 {
     let n = film.numbers();
     if !n.has(window) {

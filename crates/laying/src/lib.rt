@@ -9,6 +9,8 @@
 // kinds of outlines apart, so that a new kind needs one arm there and its definitions.
 // `layers` has the layer itself, its blocks and its step and repeat. It is generic over the film and
 // proved once. specs/Lays.antt says what laying leaves, by the definitions of crate `laid`.
+#![tactic(auto)]
+
 mod contours;
 mod exposing;
 pub mod layers;

@@ -31,8 +31,8 @@ fn lay_circle<F: Film>(
     half: Half,
     dark: bool,
 )
-    requires { window_on (meaning film.old).frame window ≡ true }
-    ensures { Lays (meaning film.old) (beside film.old) window (single dark (laid.circle (put_at (seen_placing placing) (file_point_at at)) half.ticks)) (meaning film.new) (beside film.new) }
+    requires { window_on (F.meaning film.old).frame window ≡ true }
+    ensures { Lays (F.meaning film.old) (F.beside film.old) window (single dark (laid.circle (put_at (seen_placing placing) (file_point_at at)) half.ticks)) (F.meaning film.new) (F.beside film.new) }
 {
     let circle = Circle {
         place: place_point(placing, at),
@@ -50,8 +50,8 @@ fn lay_rectangle<F: Film>(
     b: Half,
     dark: bool,
 )
-    requires { window_on (meaning film.old).frame window ≡ true }
-    ensures { Lays (meaning film.old) (beside film.old) window (single dark (laid.rectangle (put_at (seen_placing placing) (file_point_at at)) a.ticks b.ticks)) (meaning film.new) (beside film.new) }
+    requires { window_on (F.meaning film.old).frame window ≡ true }
+    ensures { Lays (F.meaning film.old) (F.beside film.old) window (single dark (laid.rectangle (put_at (seen_placing placing) (file_point_at at)) a.ticks b.ticks)) (F.meaning film.new) (F.beside film.new) }
 {
     let rectangle = Rectangle {
         place: place_point(placing, at),
@@ -70,8 +70,8 @@ fn lay_obround<F: Film>(
     b: Half,
     dark: bool,
 )
-    requires { window_on (meaning film.old).frame window ≡ true }
-    ensures { Lays (meaning film.old) (beside film.old) window (single dark (laid.obround (put_at (seen_placing placing) (file_point_at at)) a.ticks b.ticks)) (meaning film.new) (beside film.new) }
+    requires { window_on (F.meaning film.old).frame window ≡ true }
+    ensures { Lays (F.meaning film.old) (F.beside film.old) window (single dark (laid.obround (put_at (seen_placing placing) (file_point_at at)) a.ticks b.ticks)) (F.meaning film.new) (F.beside film.new) }
 {
     let obround = Obround {
         place: place_point(placing, at),
@@ -90,8 +90,8 @@ fn lay_stroke<F: Film>(
     half: Half,
     dark: bool,
 )
-    requires { window_on (meaning film.old).frame window ≡ true }
-    ensures { Lays (meaning film.old) (beside film.old) window (single dark (laid.stroke (put_at (seen_placing placing) (file_point_at from)) (put_at (seen_placing placing) (file_point_at to)) half.ticks)) (meaning film.new) (beside film.new) }
+    requires { window_on (F.meaning film.old).frame window ≡ true }
+    ensures { Lays (F.meaning film.old) (F.beside film.old) window (single dark (laid.stroke (put_at (seen_placing placing) (file_point_at from)) (put_at (seen_placing placing) (file_point_at to)) half.ticks)) (F.meaning film.new) (F.beside film.new) }
 {
     let stroke = Stroke {
         start: place_point(placing, from),
@@ -126,8 +126,8 @@ fn lay_arc<F: Film>(
     half: Half,
     dark: bool,
 )
-    requires { window_on (meaning film.old).frame window ≡ true }
-    ensures { Lays (meaning film.old) (beside film.old) window (single dark (laid.arc (put_at (seen_placing placing) (file_point_at from)) (put_at (seen_placing placing) (file_point_at to)) (put_at (seen_placing placing) (file_centre_at centre)) (sense (seen_placing placing) clockwise) half.ticks)) (meaning film.new) (beside film.new) }
+    requires { window_on (F.meaning film.old).frame window ≡ true }
+    ensures { Lays (F.meaning film.old) (F.beside film.old) window (single dark (laid.arc (put_at (seen_placing placing) (file_point_at from)) (put_at (seen_placing placing) (file_point_at to)) (put_at (seen_placing placing) (file_centre_at centre)) (sense (seen_placing placing) clockwise) half.ticks)) (F.meaning film.new) (F.beside film.new) }
 {
     let arc = ArcStroke {
         centre: place_centre(placing, centre),
@@ -156,8 +156,8 @@ pub(crate) fn lay_object<F: Film>(
     pieces: &[Piece],
     placed: PlacedObject,
 )
-    requires { window_on (meaning film.old).frame window ≡ true }
-    ensures { Lays (meaning film.old) (beside film.old) window (lays_one (map seen_piece pieces.now) placed) (meaning film.new) (beside film.new) }
+    requires { window_on (F.meaning film.old).frame window ≡ true }
+    ensures { Lays (F.meaning film.old) (F.beside film.old) window (lays_one (map seen_piece pieces.now) placed) (F.meaning film.new) (F.beside film.new) }
 {
     let placing = placed.placing;
     let dark = is_dark(placed.turn, placed.object.polarity);

@@ -1,4 +1,4 @@
-use Rattle.std.proofs.Common.{◌-◌, ◌≤◌, length, take, drop, sym, ap, ◌∙◌, arith}
+use Rattle.std.proofs.Common.{◌-◌, length, take, sym, ap, ◌∙◌, arith}
 use Rattle.laying.proofs.Pieces.{all_of, few_of, no_pieces, seen_part}
 use Rattle.laying.proofs.contours.part.Goals as goal
 

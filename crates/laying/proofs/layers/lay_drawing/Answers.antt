@@ -1,7 +1,7 @@
-use Rattle.laying.proofs.Leaves.{lays_same, lays_window, leads_end, leads_more, leads_start}
+use Rattle.laying.proofs.Leaves.{lays_same, lays_window, leads_end, leads_more}
 use Rattle.laying.proofs.Orders.{from_end, from_more, from_start_lem}
 use Rattle.laying.proofs.layers.lay_drawing.Goals as goal
-use Rattle.std.proofs.Common.{sym, arith}
+use Rattle.std.proofs.Common.{arith}
 
 pub loop-i-init : goal.loop-i-init
 loop-i-init g c = ((λ n b p. lays_same c.args.window (from_start_lem c.args.drawing.now) p), c.requires)
