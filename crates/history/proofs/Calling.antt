@@ -1,5 +1,5 @@
 -- One call after another.
-use Rattle.std.proofs.Common.{◌≡◌, ℕ, ◌+◌, ◌<◌, true, List, [], ◌∷◌, ◌++◌, length, get_or, take, sym, refl, ap, ◌∙◌, subst, append_assoc, append-nil}
+use Rattle.std.proofs.Common.{◌≡◌, ℕ, ◌+◌, ◌<◌, List, [], ◌∷◌, ◌++◌, length, get_or, take, sym, refl, ap, ◌∙◌, subst, append_assoc, append-nil}
 use Rattle.film.specs.Film.{Meaning}
 use Rattle.film.specs.Frame.{Frame}
 use Rattle.history.proofs.Overlaying.{Overlaid, leaves, leaves_append, leaves_left, left_leaves, overlaid_then}

@@ -1,5 +1,5 @@
 -- Histories one after another.
-use Rattle.std.proofs.Common.{◌≡◌, ℕ, Bool, true, false, cond, List, [], ◌∷◌, ◌++◌, Ok, Err, sym, refl, ap, ◌∙◌, subst, inr, append-nil}
+use Rattle.std.proofs.Common.{◌≡◌, ℕ, Bool, true, false, cond, List, [], ◌∷◌, ◌++◌, Ok, Err, sym, refl, ap, subst, inr, append-nil}
 use Rattle.film.specs.Faults as faults
 use Rattle.film.specs.Film.{Meaning}
 use Rattle.history.proofs.Calling.{answers_join, earlier_answers, past_append}

@@ -3,7 +3,7 @@ use Rattle.std.proofs.Common.{◌≡◌, ℕ, ◌<◌, Bool, true, false, cond, 
 use Rattle.film.specs.Film.{Meaning}
 use Rattle.film.specs.Frame.{Frame}
 use Rattle.film.specs.declared.window.Window.{Window}
-use Rattle.history.specs.Coverings.{Covering, Last, Left, Never, Shows, covers, is_dark, laid, on}
+use Rattle.history.specs.Coverings.{Covering, Left, Never, Shows, covers, is_dark, laid, on}
 use Rattle.laid.specs.Covered.{LaidOn, covers_pixel, shown_by}
 use Rattle.laid.specs.Laid.{LaidObject}
 use Rattle.std.proofs.lemmas.Bool.{and_parts, ltb-true}

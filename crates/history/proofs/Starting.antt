@@ -1,13 +1,8 @@
 -- The films at their start.
-use Rattle.bitmap.specs.Made.{NewBitmap}
-use Rattle.bitmap.specs.Pixels.{bitmap_meaning}
-use Rattle.film.specs.Film.{Meaning}
-use Rattle.film.specs.Frame.{Frame}
-use Rattle.film.specs.declared.numbers.Numbers.{Numbers}
 use Rattle.history.proofs.Overlaying.{leaves_never, on_film, shows_overlaid}
 use Rattle.history.specs.Calls.{past}
-use Rattle.history.specs.Starts.{AllClear, EveryStart}
-use Rattle.piles.specs.Piles.{cut, cut_out, whole}
+use Rattle.history.specs.Starts.{EveryStart}
+use Rattle.piles.specs.Piles.{cut, whole}
 use Rattle.std.proofs.Common.{cond, refl, ap, ◌∙◌}
 
 pub every_start : EveryStart

@@ -12,7 +12,7 @@ use Rattle.history.proofs.Overlaying.{Overlaid, leaves, leaves_again, leaves_app
 use Rattle.history.specs.Calls.{AllAnswered, Answers, Call, Said, clear, lays, look, part, past, said_by, whole}
 use Rattle.history.specs.Coverings.{Covering, Left, laid, on}
 use Rattle.history.specs.History.{History}
-use Rattle.history.specs.Tiles.{Accepted, AllSay, AsWhole, Each, EveryTiling, Holds, RefusedPlot, SomeOne, Tile, TilesAsWhole, Tiling, WindowOf, whole_said}
+use Rattle.history.specs.Tiles.{Accepted, AllSay, Each, EveryTiling, Holds, RefusedPlot, SomeOne, Tile, TilesAsWhole, Tiling, WindowOf, whole_said}
 use Rattle.history.specs.Verdicts.{Slots, accepts, entire, judged, lay_list, lays_by, no_refusal, numbers, plot_coverings, verdict}
 use Rattle.laid.specs.Covered.{covers_point}
 use Rattle.film.specs.Frame.{centre_x, centre_y}

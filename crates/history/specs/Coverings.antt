@@ -1,5 +1,5 @@
 -- What covers the pixels of a film, and which covering was the last.
-use Rattle.std.specs.Prelude.{◌≡◌, ℕ, Bool, true, false, cond, ◌&&◌, ◌⊎◌, List, [], ◌∷◌, ◌++◌, nat_lt}
+use Rattle.std.specs.Prelude.{◌≡◌, ℕ, Bool, true, false, ◌&&◌, ◌⊎◌, List, [], ◌∷◌, ◌++◌, nat_lt}
 use Rattle.film.specs.Film.{Meaning}
 use Rattle.film.specs.Frame.{Frame}
 use Rattle.film.specs.declared.window.Window.{Window}

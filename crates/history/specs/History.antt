@@ -5,7 +5,7 @@ use Rattle.film.specs.Film.{Meaning, read_of}
 use Rattle.film.specs.declared.window.Window.{Window}
 use Rattle.history.specs.Calls.{AllAnswered, Answers, Call, Said, Tables, blanked, clear, lays, look, part, past, pixel, refusal, said_by, slots_of, stored_books, tables_after, whole}
 use Rattle.history.specs.Coverings.{Shows, blanking}
-use Rattle.history.specs.Verdicts.{Slots, entire, numbers, plot_coverings, verdict}
+use Rattle.history.specs.Verdicts.{entire, numbers, plot_coverings, verdict}
 use Rattle.words.specs.Words.{Told, fault}
 
 -- The calls qs, one after another and nothing else, were made of the film that was `before`: every pixel shows the last

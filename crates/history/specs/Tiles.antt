@@ -3,7 +3,7 @@ use Rattle.std.specs.Prelude.{◌≡◌, ℕ, true, false, ◌⊎◌, List, [], 
 use Rattle.film.specs.Film.{Meaning}
 use Rattle.film.specs.Frame.{Frame, in_limits}
 use Rattle.film.specs.declared.window.Window.{Window}
-use Rattle.history.specs.Calls.{Call, Said, Tables, clear, look, part, said_by, slots_of, tables_past, whole}
+use Rattle.history.specs.Calls.{Call, Said, Tables, clear, look, part, said_by, tables_past, whole}
 use Rattle.history.specs.Coverings.{on}
 use Rattle.history.specs.History.{History}
 use Rattle.history.specs.Verdicts.{Slots, accepts, entire, numbers, verdict}

@@ -9,6 +9,8 @@
 // specs/Coverings.antt says what the last covering is, specs/Verdicts.antt what a plot comes to,
 // specs/Calls.antt what is answered, specs/History.antt and specs/Tiles.antt what a history promises,
 // specs/Starts.antt what films show before it.
+#![tactic(auto)]
+
 ghost use Rattle.history.specs.History.{EveryPast};
 ghost use Rattle.history.specs.Starts.{EveryStart};
 ghost use Rattle.history.specs.Tiles.{EveryTiling};
