@@ -6,13 +6,11 @@ use Rattle.filelaws.proofs.Answers.{onward_ok, same_ok}
 use Rattle.forms.specs.Orders as order
 use Rattle.forms.specs.Orders.{Order}
 use Rattle.forms.specs.declared.Format.{Format}
-use Rattle.forms.specs.declared.Mode.TheVariants.{Clockwise, Counterclockwise, Linear}
-use Rattle.forms.specs.declared.Mode.{Mode}
 use Rattle.plane.specs.Plane.{At}
 use Rattle.records.specs.Records.{ApertureSeen}
-use Rattle.rules.specs.Rules.{contour_ended, decided, may_stand, moved_to, obeyed, otherwise, piece_to, stroke_in}
-use Rattle.rules.specs.States as state
-use Rattle.rules.specs.States.{Decided, EffectSeen, RegionSeen, StateSeen}
+use Rattle.rules.specs.Rules.{arrived, decided, is_outside, may_stand, obeyed, otherwise}
+use Rattle.rules.specs.Settings.{with_contour, with_point}
+use Rattle.rules.specs.States.{Decided, EffectSeen, StateSeen}
 use Rattle.words.specs.Words.{onward}
 
 -- a good answer has the format f
@@ -37,22 +35,15 @@ either : (f : Option Format) (b : Bool) (c d : Decided) → Has f c → Has f d 
 either f true c d p q = p
 either f false c d p q = q
 
-moved : (s : StateSeen) (n : ℕ) (r : RegionSeen) (p : At) → Has s.format (moved_to s n r p)
-moved s n state.outside p = ok _ _
-moved s n state.inside p = ok _ _
-moved s n (state.begun a first) p = on _ (contour_ended s n (state.begun a first)) _ (λ e. ok _ e)
+-- a choice between two states that have the format f
+chosen : (f : Option Format) (b : Bool) (c d : StateSeen) (e : EffectSeen) → c.format ≡ f → d.format ≡ f → Has f (Ok (cond b c d, e))
+chosen f true c d e p q = record { format = p }
+chosen f false c d e p q = record { format = q }
 
-piece : (s : StateSeen) (r : RegionSeen) (p : At) → Has s.format (piece_to s r p)
-piece s state.outside p = err _ _
-piece s state.inside p = err _ _
-piece s (state.begun a first) p = ok _ _
+moved : (s : StateSeen) (n : ℕ) (p : At) (e : EffectSeen) → Has s.format (Ok (arrived s n p, e))
+moved s n p e = chosen s.format (is_outside s.region) (with_point p s) (with_contour p n s) e refl refl
 
-stroke : (s : StateSeen) (m : Mode) (from to centre : At) (h : ℕ) → Has s.format (stroke_in s m from to centre h)
-stroke s Linear from to centre h = when _ _ _ _ (ok _ _)
-stroke s Clockwise from to centre h = when _ _ _ _ (ok _ _)
-stroke s Counterclockwise from to centre h = when _ _ _ _ (ok _ _)
-
-ruleset keeping = (on, when, either, moved, piece, stroke, ok, err)
+ruleset keeping = (on, when, either, moved, ok, err)
 
 -- FS sets the format, and every other command keeps it
 obeyed_format : (s : StateSeen) (aps : List ApertureSeen) (n m : ℕ) (o : Order) → Has (format_after o s.format) (obeyed s aps n m o)

@@ -8,6 +8,8 @@
 // - an accepted file that is cut before the end of its M02 is refused.
 // Each stands on the contract of a function that answers 0. specs/Laws.antt has what they say.
 
+#![tactic(auto)]
+
 ghost use Rattle.filelaws.specs.Laws.{CutIsRefused, EndsAtM02, FullTablesOnlyDecide29, RecordsByCommands, RemarksChangeNothing};
 ghost use Rattle.std.specs.Prelude.{◌≡◌};
 
