@@ -20,7 +20,7 @@ use Rattle.records.specs.declared.kinds.Owner.TheVariants.{Block, Layer, Repeat}
 use Rattle.records.specs.declared.kinds.Owner.{Owner}
 use Rattle.records.specs.declared.kinds.Repeat.{Repeat as RepeatRecord}
 use Rattle.rules.specs.Rules as rules
-use Rattle.rules.specs.Rules.{arc_fits, arrived, block_opened, centre_of, circle_defined, closed_only, contour_ended, decided, defines, drawn, drawn_at, draws, ends_of, flash_of, flashes, free, given_both, half_of, in_block, in_repeat_lem, is_begun, is_open, is_outside, leaves, may_stand, mode_wanted, moves, number_from, number_of, obeyed, obround_defined, on_layer, otherwise, pen_of, piece_drawn, point_of, ready, rectangle_defined, region_closed, repeat_of, repeat_opened, repeats, round_half, scale_of, selected, selection, short_stroke, side_half, stands_at, step_of, stroke_drawn, stroke_half, stroke_in, value_of, wanted}
+use Rattle.rules.specs.Rules.{arc_fits, arrived, block_opened, centre_of, circle_defined, closed_only, contour_ended, decided, defines, drawn, drawn_at, draws, ends_of, flash_of, flashes, free, given_both, half_of, in_block, in_repeat, is_begun, is_open, is_outside, leaves, may_stand, mode_wanted, moves, number_from, number_of, obeyed, obround_defined, on_layer, otherwise, pen_of, piece_drawn, point_of, ready, rectangle_defined, region_closed, repeat_of, repeat_opened, repeats, round_half, scale_of, selected, selection, short_stroke, side_half, stands_at, step_of, stroke_drawn, stroke_half, stroke_in, value_of, wanted}
 use Rattle.rules.specs.Settings.{with_aperture, with_contour, with_owner, with_point, without_region}
 use Rattle.rules.specs.States as state
 use Rattle.rules.specs.States.{EffectSeen, RegionSeen, StateSeen}
@@ -220,7 +220,7 @@ module _ (aps : List ApertureSeen) (os : List ObjectSeen) (pcs : List At) (s : S
   Ended e = (next : StateSeen) → next.owner ≡ s.owner → StateFit aps os pcs next → EffectFit aps os pcs next e
 
   closes : (a : At) (first : ℕ) → ContourFit pcs s.point a first → stands_at s.point a ≡ true → last_of a (drop first pcs) ≡ a
-  closes a first f e = same-is-equal.yes (last_of a (drop first pcs)) a (subst (λ (p : Option At). stands_at p a ≡ true) f.leads e)
+  closes a first f e = same_is_equal.yes (last_of a (drop first pcs)) a (subst (λ (p : Option At). stands_at p a ≡ true) f.leads e)
 
   contour_sound : (a : At) (first : ℕ) → ContourFit pcs s.point a first → first < length pcs → stands_at s.point a ≡ true → ContourSound pcs a first (length pcs - first)
   contour_sound a first f l e = record { some = omega arith; there = omega arith; closed = ap (last_of a) (take_rest pcs first) ∙ closes a first f e }
@@ -385,7 +385,7 @@ obeyed_fits aps os pcs s f a b (order.block_open k) e = block_fits aps os pcs s 
 obeyed_fits aps os pcs s f a b order.block_close e = closing_fits aps os pcs s f (and_parts (free s) (in_block s.owner) e).0
 obeyed_fits aps os pcs s f a b (order.repeat_open i j x y) e =
     repeat_fits aps os pcs s f (repeat_of (scale_of s) (length os) i.value j.value x.value y.value) (new_repeat aps os pcs s f (scale_of s) i.value j.value x.value y.value) (and_parts (free s) (on_layer s.owner) e).0
-obeyed_fits aps os pcs s f a b order.repeat_close e = closing_fits aps os pcs s f (and_parts (free s) (in_repeat_lem s.owner) e).0
+obeyed_fits aps os pcs s f a b order.repeat_close e = closing_fits aps os pcs s f (and_parts (free s) (in_repeat s.owner) e).0
 obeyed_fits aps os pcs s f a b (order.polarity p) e = f
 obeyed_fits aps os pcs s f a b (order.mirror x y) e = f
 obeyed_fits aps os pcs s f a b (order.attribute k t) e = f

@@ -2,7 +2,7 @@
 use Rattle.std.proofs.Common.{◌≡◌, ℕ, zero, suc, ◌+◌, ◌<◌, ◌≤◌, false, ltb, List, [], ◌∷◌, ◌++◌, length, Some, None, Ok, Err, Option, Result, sym, refl, ◌∙◌, subst, arith}
 use Rattle.commands.specs.Files.{ReadSeen, command_at, is_end}
 use Rattle.drawing.specs.Books.{Books, Rooms, Standing, adds, begin, laid_after, rooms_for, stepped, taken, too_deep, too_much, weighs_here, with_object}
-use Rattle.drawing.specs.Reading.{Outcome, after_read_lem, after_step, ended, is_short, read_file, read_on, refused}
+use Rattle.drawing.specs.Reading.{Outcome, after_read, after_step, ended, is_short, read_file, read_on, refused}
 use Rattle.forms.specs.Orders.{Order}
 use Rattle.plane.specs.Plane.{At}
 use Rattle.recordlaws.proofs.Commands.{Fitting, decided_fits}
@@ -127,7 +127,7 @@ module _ (room : Rooms) (r : room.apertures ≤ 128) (xs : List ℕ) where
       (λ e. h s.next next f)
 
   after_read_lem : (k : ℕ) (more : ℕ → Standing → Outcome) → ((j : ℕ) (next : Standing) → Stands next → Kept (more j next).books)
-      → (st : Standing) → Stands st → (a : Result ReadSeen Told) → Kept (after_read_lem room k xs more st a).books
+      → (st : Standing) → Stands st → (a : Result ReadSeen Told) → Kept (after_read room k xs more st a).books
   after_read_lem k more h st b (Err t) = b.books
   after_read_lem k more h st b (Ok s) = after_step_lem k s more h st b (stepped room st s.order) (step_kept room r st b s.order)
 

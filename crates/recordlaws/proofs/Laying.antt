@@ -1,7 +1,7 @@
 -- How many objects blocks, objects and step and repeats lay.
 use Rattle.std.proofs.Common.{◌≡◌, ℕ, zero, suc, ◌+◌, ◌-◌, ◌*◌, ◌<◌, ◌≤◌, Bool, true, false, cond, not, eqb, ltb, leb, ◌⊎◌, List, [], ◌∷◌, length, take, drop, sym, refl, ap, ◌∙◌, subst, inl, inr, mul-le-mul_right, add-mul, arith}
 use Rattle.forms.specs.declared.Polarity.{Polarity}
-use Rattle.laid.specs.Laid.{LaidObject, block_objects, in_reach_lem, is_dark, is_repeat, laid_objects, lay_all, lay_block, lay_copy, lay_from, lay_one, lay_outline, lay_owned, lay_repeat, objects_in, repeat_objects, up_to}
+use Rattle.laid.specs.Laid.{LaidObject, block_objects, in_reach, is_dark, is_repeat, laid_objects, lay_all, lay_block, lay_copy, lay_from, lay_one, lay_outline, lay_owned, lay_repeat, objects_in, repeat_objects, up_to}
 use Rattle.laid.specs.Puts.{Put, composed, flashed_at, shifted, still}
 use Rattle.plane.specs.Plane.{At}
 use Rattle.recordlaws.proofs.Depths.{Shallow}
@@ -179,7 +179,7 @@ module _ (aps : List ApertureSeen) (os : List ObjectSeen) (pcs : List At) (sound
 
   copy_lays : (r : RepeatRecord) (x y : ℕ) → x ≤ 60000 → y ≤ 60000 → length (copy r x y) ≡ lays_all aps os (repeat_objects r os)
   copy_lays r x y h k =
-      ap length (cond-true (in_reach_lem x y) (lay_all pcs (lay_block aps os pcs 8) 128 (shifted x y) false (repeat_objects r os)) [] (and_from (leb x 60000) (leb y 60000) (le-leb x 60000 h) (le-leb y 60000 k)))
+      ap length (cond-true (in_reach x y) (lay_all pcs (lay_block aps os pcs 8) 128 (shifted x y) false (repeat_objects r os)) [] (and_from (leb x 60000) (leb y 60000) (le-leb x 60000 h) (le-leb y 60000 k)))
       ∙ all_lay (shifted x y) false (repeat_objects r os)
       (sound_take aps pcs (prefix_len (λ o. is_repeat r.first o.owner) (drop r.first os)) (drop r.first os) (sound_drop aps pcs r.first os sound))
 

@@ -5,6 +5,8 @@
 // closed, that blocks flash only earlier blocks and are at most 8 deep, and that the laid count is
 // the number of laid objects. Each stands on the contract of a function that answers 0.
 // specs/Laws.antt has what they say.
+#![tactic(auto)]
+
 ghost use Rattle.recordlaws.specs.Laws.{FilesAreSound, LaidCounted};
 ghost use Rattle.std.specs.Prelude.{◌≡◌};
 
