@@ -3,6 +3,7 @@
 //
 // `reading` reads a file with slots that the test lends and tells what it answers: 0 with the counts,
 // or a refusal's number, place and count of commands taken. The crate has nothing but tests.
+#![tactic(auto)]
 
 #[cfg(test)]
 mod limits;

@@ -27,13 +27,14 @@ fn case_of<'a>(line: &'a str) -> Option<Case<'a>> {
 }
 
 fn check_case(rt: &impl Abort, heap: Global, c: Case<'_>) -> Result<(), Fail> {
-    let file = with_head(heap, c.body)?;
+    let body = c.body;
+    let file = with_head(heap, body)?;
     let mut s = make_slots(heap, 128, 64, 64)?;
     let (n, p, k) = told(file.as_slice(), &mut s);
-    assert_eq!(rt; n, c.number, "{}", c.body);
+    assert_eq!(rt; n, c.number, "{}", body);
     if n > 0 {
-        assert_eq!(rt; p, c.place.saturating_add(63), "{}", c.body);
-        assert_eq!(rt; k, c.taken.saturating_add(5), "{}", c.body);
+        assert_eq!(rt; p, c.place.saturating_add(63), "{}", body);
+        assert_eq!(rt; k, c.taken.saturating_add(5), "{}", body);
     }
     Ok(())
 }
