@@ -10,16 +10,16 @@ use Rattle.film.specs.Frame.{Frame}
 use Rattle.film.specs.Made.{window_on}
 use Rattle.film.specs.declared.window.Window.{Window}
 use Rattle.history.proofs.Overlaying.{laid_shows, overlaid_none, overlaid_shows}
-use Rattle.history.specs.Calls.{Tables, slots_of, stored_books}
+use Rattle.history.specs.Calls.{Tables, slots_of}
 use Rattle.history.specs.Coverings as cover
 use Rattle.history.specs.Coverings.{Shows}
 use Rattle.history.specs.History.{Plotted}
 use Rattle.history.specs.Verdicts.{judged, lays_by, numbers, numbers_by, verdict}
 use Rattle.laid.specs.Covered.{LaidOn}
-use Rattle.laid.specs.Laid.{LaidObject, laid_objects}
+use Rattle.laid.specs.Laid.{laid_objects}
 use Rattle.plot.specs.Reads.{Recorded}
 use Rattle.plot.specs.Requests.{tables_of}
-use Rattle.records.specs.Records.{ApertureSeen, ObjectSeen, seen_aperture, seen_object, seen_piece}
+use Rattle.records.specs.Records.{seen_aperture, seen_object, seen_piece}
 use Rattle.records.specs.declared.kinds.Aperture.{Aperture}
 use Rattle.records.specs.declared.kinds.Object.{Object}
 use Rattle.std.proofs.lemmas.List.{length-append, length-map, take_at, take-map}

@@ -1,5 +1,5 @@
 -- Requests, answers and slots of the program as plain values.
-use Rattle.std.specs.Prelude.{ℕ, List, map}
+use Rattle.std.specs.Prelude.{List, map}
 use Rattle.contour.specs.declared.pieces.Piece.{Piece}
 use Rattle.drawing.specs.Answers.{plot_told}
 use Rattle.history.specs.Calls as call

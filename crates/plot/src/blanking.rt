@@ -8,9 +8,9 @@ use film::numbers::Numbers;
 
 // Makes the rows from `top` on clear; from row 0 on, that is the whole film.
 fn clear_rows<F: Film>(film: &mut F, n: Numbers, top: u32)
-    requires { frame_of n ≡ (meaning film.old).frame }
-    ensures whole { top ≡ 0 → Shows (meaning film.old) (blanking ∷ []) (meaning film.new) }
-    ensures beside { beside film.new ≡ beside film.old }
+    requires { frame_of n ≡ (F.meaning film.old).frame }
+    ensures whole { top ≡ 0 → Shows (F.meaning film.old) (blanking ∷ []) (F.meaning film.new) }
+    ensures beside { F.beside film.new ≡ F.beside film.old }
 {
     for row in top..n.height {
         // The row is on the film, so that this is not refused.
@@ -20,8 +20,8 @@ fn clear_rows<F: Film>(film: &mut F, n: Numbers, top: u32)
 
 /// Makes every pixel of the film clear.
 pub fn blank<F: Film>(film: &mut F)
-    ensures shown { Shows (meaning film.old) (blanking ∷ []) (meaning film.new) }
-    ensures beside { beside film.new ≡ beside film.old }
+    ensures shown { Shows (F.meaning film.old) (blanking ∷ []) (F.meaning film.new) }
+    ensures beside { F.beside film.new ≡ F.beside film.old }
 {
     let n = film.numbers();
     clear_rows(film, n, 0);

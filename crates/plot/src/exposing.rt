@@ -30,7 +30,7 @@ fn answer_of(plotted: Result<(usize, u32), PlotFault>) -> Answer
 
 // The answer to a reading.
 fn look_at<F: Film>(film: &F, column: u32, row: u32) -> Answer
-    ensures { seen_answer result ≡ said_of (read_of (meaning film.now) column row) }
+    ensures { seen_answer result ≡ said_of (read_of (F.meaning film.now) column row) }
 {
     match film.read(column, row) {
         Ok(dark) => Answer::Pixel(dark),
@@ -47,9 +47,9 @@ fn serve<F: Film>(
     pieces: &mut [Piece],
     request: &Request<'_>,
 ) -> Answer
-    requires { whole ≡ entire (meaning film.old).frame }
-    ensures served { Served (meaning film.old) (tables_of apertures.old objects.old pieces.old) (asked (slots_of (tables_of apertures.old objects.old pieces.old)) request.now) (seen_answer result) (tables_of apertures.new objects.new pieces.new) (meaning film.new) }
-    ensures beside { beside film.new ≡ beside film.old }
+    requires { whole ≡ entire (F.meaning film.old).frame }
+    ensures served { Served (F.meaning film.old) (tables_of apertures.old objects.old pieces.old) (asked (slots_of (tables_of apertures.old objects.old pieces.old)) request.now) (seen_answer result) (tables_of apertures.new objects.new pieces.new) (F.meaning film.new) }
+    ensures beside { F.beside film.new ≡ F.beside film.old }
 {
     match *request {
         Request::Plot { file } => {
@@ -78,8 +78,8 @@ fn serve_all<F: Film>(
     answers: &mut Vec<Answer>,
 )
     requires { (answers.old.items ≡ []) × ((vec_len answers.old ≡ 0) × (length requests.now ≤ vec_capacity answers.old)) }
-    ensures exposed { Exposed (meaning film.old) (tables_of apertures.old objects.old pieces.old) (map (asked (slots_of (tables_of apertures.old objects.old pieces.old))) requests.now) (map seen_answer answers.new.items) (tables_of apertures.new objects.new pieces.new) (meaning film.new) }
-    ensures beside { beside film.new ≡ beside film.old }
+    ensures exposed { Exposed (F.meaning film.old) (tables_of apertures.old objects.old pieces.old) (map (asked (slots_of (tables_of apertures.old objects.old pieces.old))) requests.now) (map seen_answer answers.new.items) (tables_of apertures.new objects.new pieces.new) (F.meaning film.new) }
+    ensures beside { F.beside film.new ≡ F.beside film.old }
 {
     let window = whole(film);
     for request in requests {
@@ -99,8 +99,8 @@ pub fn expose<F: Film>(
     pieces: &mut [Piece],
     requests: &[Request<'_>],
 ) -> Result<Vec<Answer>, AllocError>
-    ensures exposed { MatchResult result (λ v. Exposed (meaning film.old) (tables_of apertures.old objects.old pieces.old) (map (asked (slots_of (tables_of apertures.old objects.old pieces.old))) requests.now) (map seen_answer v.items) (tables_of apertures.new objects.new pieces.new) (meaning film.new)) (λ e. (film.new ≡ film.old) × (apertures.new ≡ apertures.old) × (objects.new ≡ objects.old) × (pieces.new ≡ pieces.old)) }
-    ensures beside { beside film.new ≡ beside film.old }
+    ensures exposed { MatchResult result (λ v. Exposed (F.meaning film.old) (tables_of apertures.old objects.old pieces.old) (map (asked (slots_of (tables_of apertures.old objects.old pieces.old))) requests.now) (map seen_answer v.items) (tables_of apertures.new objects.new pieces.new) (F.meaning film.new)) (λ e. (film.new ≡ film.old) × (apertures.new ≡ apertures.old) × (objects.new ≡ objects.old) × (pieces.new ≡ pieces.old)) }
+    ensures beside { F.beside film.new ≡ F.beside film.old }
 {
     let mut answers = Vec::with_capacity(heap, requests.len())?;
     serve_all(film, apertures, objects, pieces, requests, &mut answers);

@@ -8,6 +8,8 @@
 // by the definitions of the crate `history`: every pixel shows the last thing that covered it, each
 // answer is by the rules and by what the calls before it left, and the slots hold the records taken.
 // specs/Requests.antt says which plain values requests, answers and slots stand for.
+#![tactic(auto)]
+
 pub mod blanking;
 pub mod exposing;
 pub mod plotting;

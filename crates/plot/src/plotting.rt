@@ -22,7 +22,7 @@ use records::kinds::{Aperture, Object};
 
 // Whether the window holds a pixel and lies on the film.
 fn fits<F: Film>(film: &F, window: Window) -> bool
-    ensures { result ≡ window_on (meaning film.now).frame window }
+    ensures { result ≡ window_on (F.meaning film.now).frame window }
 {
     film.numbers().has(window)
 }
@@ -48,7 +48,7 @@ fn read_within<F: Film>(
     objects: &mut [Object],
     pieces: &mut [Piece],
 ) -> Result<Drawing, PlotFault>
-    ensures { Recorded (verdict (meaning film.now).frame (slots_of (tables_of apertures.old objects.old pieces.old)) window file.now) (tables_of apertures.old objects.old pieces.old) (told_plot result) (tables_of apertures.new objects.new pieces.new) }
+    ensures { Recorded (verdict (F.meaning film.now).frame (slots_of (tables_of apertures.old objects.old pieces.old)) window file.now) (tables_of apertures.old objects.old pieces.old) (told_plot result) (tables_of apertures.new objects.new pieces.new) }
 {
     if !fits(film, window) {
         return Err(PlotFault::Film(FilmFault::Window));
@@ -65,9 +65,9 @@ fn lay_records<F: Film>(
     objects: &[Object],
     pieces: &[Piece],
 )
-    requires { (window_on (meaning film.old).frame window ≡ true) × ((drawing.apertures ≤ length apertures.now) × ((drawing.objects ≤ length objects.now) × (drawing.pieces ≤ length pieces.now))) }
-    ensures laid { LaidOn (meaning film.old) window (laid_objects (map seen_aperture (take drawing.apertures apertures.now)) (map seen_object (take drawing.objects objects.now)) (map seen_piece (take drawing.pieces pieces.now))) (meaning film.new) }
-    ensures beside { beside film.new ≡ beside film.old }
+    requires { (window_on (F.meaning film.old).frame window ≡ true) × ((drawing.apertures ≤ length apertures.now) × ((drawing.objects ≤ length objects.now) × (drawing.pieces ≤ length pieces.now))) }
+    ensures laid { LaidOn (F.meaning film.old) window (laid_objects (map seen_aperture (take drawing.apertures apertures.now)) (map seen_object (take drawing.objects objects.now)) (map seen_piece (take drawing.pieces pieces.now))) (F.meaning film.new) }
+    ensures beside { F.beside film.new ≡ F.beside film.old }
 {
     // The window is on the film, so that this is not refused.
     let _ = lay(
@@ -97,9 +97,9 @@ pub fn window_plot<F: Film>(
     objects: &mut [Object],
     pieces: &mut [Piece],
 ) -> Result<(usize, u32), PlotFault>
-    ensures plotted { Plotted (meaning film.old) (tables_of apertures.old objects.old pieces.old) window file.now (told_plot result) (tables_of apertures.new objects.new pieces.new) (meaning film.new) }
+    ensures plotted { Plotted (F.meaning film.old) (tables_of apertures.old objects.old pieces.old) window file.now (told_plot result) (tables_of apertures.new objects.new pieces.new) (F.meaning film.new) }
     ensures refused_unchanged { is_err result ≡ true → film.new ≡ film.old }
-    ensures beside { beside film.new ≡ beside film.old }
+    ensures beside { F.beside film.new ≡ F.beside film.old }
 {
     let drawing = read_within(film, window, file, apertures, objects, pieces)?;
     lay_records(film, window, drawing, apertures, objects, pieces);
@@ -108,8 +108,8 @@ pub fn window_plot<F: Film>(
 
 // The window of the whole film.
 pub(crate) fn whole<F: Film>(film: &F) -> Window
-    ensures value { result ≡ entire (meaning film.now).frame }
-    ensures fits { window_on (meaning film.now).frame result ≡ true }
+    ensures value { result ≡ entire (F.meaning film.now).frame }
+    ensures fits { window_on (F.meaning film.now).frame result ≡ true }
 {
     let n = film.numbers();
     Window {
@@ -128,9 +128,9 @@ pub fn plot<F: Film>(
     objects: &mut [Object],
     pieces: &mut [Piece],
 ) -> Result<(usize, u32), PlotFault>
-    ensures plotted { Plotted (meaning film.old) (tables_of apertures.old objects.old pieces.old) (entire (meaning film.old).frame) file.now (told_plot result) (tables_of apertures.new objects.new pieces.new) (meaning film.new) }
+    ensures plotted { Plotted (F.meaning film.old) (tables_of apertures.old objects.old pieces.old) (entire (F.meaning film.old).frame) file.now (told_plot result) (tables_of apertures.new objects.new pieces.new) (F.meaning film.new) }
     ensures refused_unchanged { is_err result ≡ true → film.new ≡ film.old }
-    ensures beside { beside film.new ≡ beside film.old }
+    ensures beside { F.beside film.new ≡ F.beside film.old }
 {
     let window = whole(film);
     window_plot(film, window, file, apertures, objects, pieces)
