@@ -5,6 +5,8 @@
 // `--records=FILE` and `--commands=FILE` list what a file comes to; `--testcard=FILM --size=W,H`
 // draws a test card. A refused file, an unknown option or a file that cannot be read or written is
 // told on standard error, and the program ends with status 1.
+#![tactic(auto)]
+
 mod card;
 mod files;
 mod job;
@@ -25,6 +27,7 @@ use options::{Options, Order, USAGE, complain, take_argument};
 use pile::expose_on;
 use recording::list_records;
 use std::alloc::{AllocError, AllocFailed};
+use std::process::ExitCode;
 use std::{env, io};
 use work::{Single, Task, Teller, Work};
 
@@ -117,10 +120,14 @@ fn run(rt: &HostRuntime) -> Result<(), Stop> {
     obey_all(rt, &options)
 }
 
-fn main(rt: HostRuntime) -> Result<(), Stop> {
-    let done = run(&rt);
-    if let Err(Stop::Memory) = &done {
-        eprintln!(rt; "plotter: there is not enough memory")?;
+fn main(rt: HostRuntime) -> ExitCode {
+    match run(&rt) {
+        Ok(()) => ExitCode::SUCCESS,
+        Err(Stop::Memory) => {
+            // the status tells of it where this cannot be written
+            let _ = eprintln!(rt; "plotter: there is not enough memory");
+            ExitCode::FAILURE
+        }
+        Err(_) => ExitCode::FAILURE,
     }
-    done
 }
