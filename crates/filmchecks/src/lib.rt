@@ -2,6 +2,7 @@
 //
 // `specs/FilmSamples.antt` lists them as computed truth values over the very definitions that the contracts of the other
 // crates cite; `film_samples_hold` states that each of them is true, and one proof settles the whole list.
+#![tactic(auto)]
 
 ghost use Rattle.std.specs.Prelude.{◌≡◌, true};
 ghost use Rattle.filmchecks.specs.FilmSamples.{all_true, film_samples};
