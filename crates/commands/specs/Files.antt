@@ -1,7 +1,6 @@
 use Rattle.std.specs.Prelude.{ℕ, zero, suc, ◌+◌, ◌<◌, ◌≤◌, Bool, true, false, cond, List, length, Some, None, Ok, Err, Option, Result}
 use Rattle.std.specs.Result as results
-use Rattle.ticks.specs.declared.Decimals.{Decimals}
-use Rattle.ticks.specs.declared.Decimals.TheVariants.{Four, Five, Six}
+use Rattle.ticks.specs.Ticks.{places_of}
 use Rattle.words.specs.Words.{Told, WordSeen, closing, fault, next_word, onward, text_told}
 use Rattle.forms.specs.Forms.{form_of}
 use Rattle.forms.specs.Orders as order
@@ -15,11 +14,6 @@ use Rattle.commands.specs.declared.Read.{Read}
 abbrev pub command_told : CommandFault → Told
 command_told (Text t) = text_told t
 command_told (Form p k) = fault 20 p k
-
-abbrev pub places_of : Decimals → ℕ
-places_of Four = 4
-places_of Five = 5
-places_of Six = 6
 
 -- A value has at most the digits of the format in force, and 12 before there is one.
 abbrev pub longest_of : Option Format → ℕ

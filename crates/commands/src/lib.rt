@@ -10,25 +10,23 @@
 
 #![tactic(auto)]
 
-ghost use Rattle.std.specs.Prelude.{◌≡◌, ◌+◌, ◌^◌, ◌<◌, ◌≤◌, length};
-ghost use Rattle.commands.specs.Files.{Goes, command_at, count_commands, ended, format_after, is_end, longest_of, next_command, places_of, seen_read, told_command};
+ghost use Rattle.std.specs.Prelude.{◌≡◌, length};
+ghost use Rattle.commands.specs.Files.{Goes, command_at, count_commands, format_after, is_end, longest_of, seen_read, told_command};
 ghost use Rattle.commands.specs.declared.CommandFault.TheVariants.{Text};
-ghost use Rattle.forms.specs.Forms.{form_of};
-ghost use Rattle.forms.specs.Orders.{seen_command, seen_option};
-ghost use Rattle.words.specs.Words.{seen};
+ghost use Rattle.forms.specs.Orders.{seen_command};
 
 use forms::{Command, Format, form_of};
-use ticks::Decimals;
-use words::{TextFault, Word, close, next_word};
+use words::{Cursor, TextFault};
 
 // Why the command layer refuses a file: the text is faulty, or a command has none of the forms.
-#[derive(Clone, Copy)]
+#[derive(Clone, Copy, PartialEq, Eq, Debug)]
 pub enum CommandFault {
     Text(TextFault),
     // `place` is the command's first content byte, `taken` the number of commands before it
     Form { place: usize, taken: usize },
 }
 
+// by hand, so that the clause names what the fault becomes
 impl From<TextFault> for CommandFault {
     ghost from_gives = { λ t r. r ≡ Text t };
 
@@ -38,21 +36,29 @@ impl From<TextFault> for CommandFault {
 }
 
 // A command, the place of its first content byte, and the offset behind it.
-#[derive(Clone, Copy)]
+#[derive(Clone, Copy, PartialEq, Eq, Debug)]
 pub struct Read<'a> {
     pub command: Command<'a>,
     pub place: usize,
     pub next: usize,
 }
 
-fn places(decimals: Decimals) -> usize
-    ensures value { result ≡ places_of decimals }
-    ensures bound { result ≤ 6 }
-{
-    match decimals {
-        Decimals::Four => 4,
-        Decimals::Five => 5,
-        Decimals::Six => 6,
+impl Read<'_> {
+    // The command is M02, the last of a file.
+    pub fn is_end(self) -> bool
+        ensures { result ≡ is_end (seen_command self.entry.command) }
+    {
+        matches!(self.command, Command::EndOfFile)
+    }
+
+    // The format in force behind the command.
+    pub fn format_after(self, before: Option<Format>) -> Option<Format>
+        ensures { result ≡ format_after (seen_command self.entry.command) before }
+    {
+        match self.command {
+            Command::Format { format, .. } => Some(format),
+            _ => before,
+        }
     }
 }
 
@@ -60,94 +66,46 @@ fn places(decimals: Decimals) -> usize
 fn longest_value(format: Option<Format>) -> usize
     ensures { result ≡ longest_of format }
 {
-    match format {
-        Some(f) => f.whole as usize + places(f.decimals),
-        None => 12,
-    }
+    format.map_or(12, |f| f.whole as usize + f.decimals.places() as usize)
 }
 
-// The command that a word of a file is by its form.
-fn command_of<'a>(word: Word<'a>, longest: usize) -> Option<Command<'a>>
-    requires { word.content.at + length word.content.text.now < 2 ^ 64 }
-    ensures { seen_option result ≡ form_of longest (seen word.entry) }
-{
-    form_of(word, longest)
-}
-
-// The next command from `at` on; `taken` commands came before it, and `format` is the one in force.
+// The command that follows the cursor; `format` is the one in force.
+#[tactic(auto, unfolding(crate::specs::Files::command_at))]
 pub fn next_command<'a>(
-    file: &'a [u8],
-    at: usize,
-    taken: usize,
+    cursor: Cursor<'a>,
     format: Option<Format>,
 ) -> Result<Read<'a>, CommandFault>
-    ensures value { seen_read result ≡ next_command taken file.now at format }
-    ensures moves { Goes at (length file.now) result }
+    ensures value { seen_read result ≡ command_at cursor.entry.taken cursor.entry.file.now cursor.entry.at format }
+    ensures moves { Goes cursor.entry.at (length cursor.entry.file.now) result }
 {
-    let word = next_word(file, at, taken)?;
+    let word = cursor.next_word()?;
     let place = word.content.at;
-    let Some(command) = command_of(word, longest_value(format)) else {
-        return Err(CommandFault::Form { place, taken });
+    let fault = CommandFault::Form {
+        place,
+        taken: cursor.taken,
     };
     Ok(Read {
-        command,
+        command: form_of(word, longest_value(format)).ok_or(fault)?,
         place,
         next: word.next,
     })
 }
 
-fn is_end(command: Command<'_>) -> bool
-    ensures { result ≡ is_end (seen_command command.entry) }
-{
-    match command {
-        Command::EndOfFile => true,
-        _ => false,
-    }
-}
-
-// The format in force behind the command.
-fn format_after(command: Command<'_>, before: Option<Format>) -> Option<Format>
-    ensures { result ≡ format_after (seen_command command.entry) before }
-{
-    match command {
-        Command::Format { format, .. } => Some(format),
-        _ => before,
-    }
-}
-
-fn step<'a>(
-    file: &'a [u8],
-    at: usize,
-    taken: usize,
-    format: Option<Format>,
-) -> Result<Read<'a>, CommandFault>
-    ensures value { seen_read result ≡ command_at taken file.now at format }
-    ensures moves { Goes at (length file.now) result }
-{
-    next_command(file, at, taken, format)
-}
-
-fn finish(file: &[u8], at: usize, taken: usize) -> Result<usize, CommandFault>
-    ensures { told_command result ≡ ended taken file.now at }
-{
-    close(file, at, taken)?;
-    Ok(taken)
-}
-
 // How many commands a file has by text and form alone: up to M02, behind which nothing but CR and LF stands.
+#[tactic(auto, unfolding(crate::specs::Files::ended))]
 pub fn count_commands(file: &[u8]) -> Result<usize, CommandFault>
     ensures { told_command result ≡ count_commands file.now }
 {
-    let mut at = 0;
-    let mut taken = 0;
+    let mut cursor = Cursor::start(file);
     let mut format = None;
+    // a loop and no iterator: it ends behind M02, and each turn reads by the format of the last
     loop {
-        let read = step(file, at, taken, format)?;
-        at = read.next;
-        taken += 1;
-        if is_end(read.command) {
-            return finish(file, at, taken);
+        let read = next_command(cursor, format)?;
+        cursor = cursor.behind(read.next);
+        if read.is_end() {
+            cursor.close()?;
+            return Ok(cursor.taken);
         }
-        format = format_after(read.command, format);
+        format = read.format_after(format);
     }
 }

@@ -6,9 +6,9 @@ use Rattle.ticks.specs.declared.Decimals.{Decimals}
 use Rattle.ticks.specs.declared.Decimals.TheVariants.{Four, Five, Six}
 use Rattle.numerals.specs.Numerals.{code_number, count_number, size_millionths}
 use Rattle.words.specs.Words.{Piece}
-use Rattle.forms.specs.Numbers.{Valued, after, past, seen_size}
+use Rattle.forms.specs.Numbers.{Valued, after, past, seen_numeral}
 use Rattle.forms.specs.Orders.{Order, format, unit, circle, rectangle, obround, block_open, block_close, repeat_open, repeat_close, polarity, mirror, attribute}
-use Rattle.forms.specs.declared.Size.{Size}
+use Rattle.forms.specs.declared.Numeral.{Numeral}
 use Rattle.forms.specs.declared.Format.{Format}
 use Rattle.forms.specs.declared.Polarity.TheVariants.{Dark, Clear}
 use Rattle.forms.specs.declared.AttributeKind.{AttributeKind}
@@ -74,8 +74,8 @@ pub record Sides : Type 0 where
   pub width : Valued ℕ
   pub height : Valued ℕ
 
-abbrev pub seen_sides : Option (Size × Size) → Option Sides
-seen_sides r = options.option_map (λ t. record { width = seen_size t.0; height = seen_size t.1 }) r
+abbrev pub seen_sides : Option (Numeral ℕ × Numeral ℕ) → Option Sides
+seen_sides r = options.option_map (λ t. record { width = seen_numeral t.0; height = seen_numeral t.1 }) r
 
 -- ,sXs
 unfoldable pub sides_of : Piece → Option Sides

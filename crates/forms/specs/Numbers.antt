@@ -1,12 +1,9 @@
-use Rattle.std.specs.Prelude.{ℕ, ◌+◌, Bool, cond, ◌&&◌, ◌||◌, List, length, ℤ, Some, None, Option, ◌==◌, nat_le, slice_index}
+use Rattle.std.specs.Prelude.{ℕ, ◌+◌, Bool, cond, ◌&&◌, ◌||◌, List, length, Some, None, Option, ◌==◌, nat_le, slice_index}
 use Rattle.std.specs.List.{prefix_len, between}
 use Rattle.std.specs.Option as options
-use Rattle.words.specs.declared.Part.{Part}
 use Rattle.words.specs.Words.{Piece, piece}
-use Rattle.forms.specs.declared.Code.{Code}
-use Rattle.forms.specs.declared.Count.{Count}
-use Rattle.forms.specs.declared.Size.{Size}
-use Rattle.forms.specs.declared.Coordinate.{Coordinate}
+use Rattle.forms.specs.declared.Numeral.{Numeral}
+use Rattle.forms.specs.declared.rest.Rest.{Rest}
 
 -- A numeral has digits, signs and points.
 abbrev pub is_numeral : ℕ → Bool
@@ -19,6 +16,10 @@ numeral_run xs = prefix_len is_numeral xs
 -- The text begins with the byte b.
 abbrev pub leads : ℕ → List ℕ → Bool
 leads b xs = nat_le 1 (length xs) && slice_index xs 0 == b
+
+-- What is left of a content, as plain bytes with their place.
+abbrev pub left : Rest → Piece
+left r = piece r.part
 
 -- What is left of c past its first k bytes.
 abbrev pub past : ℕ → Piece → Piece
@@ -41,29 +42,18 @@ numeral c = record { value = front (numeral_run c.text) c; rest = past (numeral_
 unfoldable pub lettered : ℕ → Piece → Option (Then Piece)
 lettered b c = cond (leads b c.text) (Some (numeral (past 1 c))) None
 
-abbrev pub seen_lettered : Option (Part × Part) → Option (Then Piece)
-seen_lettered r = options.option_map (λ t. record { value = piece t.0; rest = piece t.1 }) r
-
 -- A numeral and its value.
 pub record Valued (V : Type 0) : Type 0 where
   pub part : Piece
   pub value : V
 
-abbrev pub seen_code : Code → Valued ℕ
-seen_code n = record { part = piece n.part; value = n.number }
-
-abbrev pub seen_count : Count → Valued ℕ
-seen_count n = record { part = piece n.part; value = n.number }
-
-abbrev pub seen_size : Size → Valued ℕ
-seen_size n = record { part = piece n.part; value = n.millionths }
-
-abbrev pub seen_coordinate : Coordinate → Valued ℤ
-seen_coordinate n = record { part = piece n.part; value = n.value }
+-- A numeral of the program as plain values.
+abbrev pub seen_numeral : {V : Type 0} → Numeral V → Valued V
+seen_numeral n = record { part = piece n.part; value = n.value }
 
 -- An answer of the program, a value and what follows it, as plain values.
-abbrev pub seen_then : {X V : Type 0} → (X → V) → Option (X × Part) → Option (Then V)
-seen_then f r = options.option_map (λ t. record { value = f t.0; rest = piece t.1 }) r
+abbrev pub seen_then : {X V : Type 0} → (X → V) → Option (X × Rest) → Option (Then V)
+seen_then f r = options.option_map (λ t. record { value = f t.0; rest = left t.1 }) r
 
 abbrev valued_by : {V : Type 0} → (List ℕ → Option V) → Option (Then Piece) → Option (Then (Valued V))
 valued_by f None = None

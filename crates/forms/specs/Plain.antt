@@ -1,12 +1,10 @@
 use Rattle.std.specs.Prelude.{ℕ, Bool, cond, not, ◌&&◌, List, ℤ, Some, None, codes, Option}
 use Rattle.std.specs.Option as options
 use Rattle.numerals.specs.Numerals.{code_number, coordinate_value}
-use Rattle.words.specs.declared.Part.{Part}
-use Rattle.words.specs.Words.{Piece, piece}
-use Rattle.forms.specs.Numbers.{Then, Valued, after, past, leads, seen_coordinate}
+use Rattle.words.specs.Words.{Piece}
+use Rattle.forms.specs.Numbers.{Then, Valued, after, past, leads, left, seen_numeral}
 use Rattle.forms.specs.Orders.{Order, comment, mode, multi_quadrant, region_open, region_close, end_of_file, select, draw, move, flash}
 use Rattle.forms.specs.Extended.{begins, is, and_then, closed}
-use Rattle.forms.specs.declared.Coordinate.{Coordinate}
 use Rattle.forms.specs.declared.Mode.TheVariants.{Linear, Clockwise, Counterclockwise}
 use Rattle.forms.specs.declared.plain.Pair.{Pair}
 
@@ -30,9 +28,6 @@ fixed_of xs =
 abbrev pub select_of : Piece → Option Order
 select_of c = and_then (after code_number 68 c) (λ k. closed k.rest (select k.value))
 
-abbrev pub seen_maybe : Option (Option Coordinate × Part) → Option (Then (Option (Valued ℤ)))
-seen_maybe r = options.option_map (λ t. record { value = options.option_map seen_coordinate t.0; rest = piece t.1 }) r
-
 -- The letter b and a value of at most `longest` digits, or nothing where the letter is absent.
 unfoldable pub maybe_after : ℕ → ℕ → Piece → Option (Then (Option (Valued ℤ)))
 maybe_after longest b c =
@@ -46,7 +41,7 @@ pub record Two : Type 0 where
   pub rest : Piece
 
 abbrev pub seen_two : Pair → Two
-seen_two p = record { first = options.option_map seen_coordinate p.first; second = options.option_map seen_coordinate p.second; rest = piece p.rest }
+seen_two p = record { first = options.option_map seen_numeral p.first; second = options.option_map seen_numeral p.second; rest = left p.rest }
 
 abbrev pub seen_pair : Option Pair → Option Two
 seen_pair r = options.option_map seen_two r

@@ -1,27 +1,19 @@
 // The forms of extended commands.
 
-ghost use Rattle.std.specs.Prelude.{◌≡◌, ◌+◌, ◌^◌, ◌<◌, ◌≤◌, length};
-ghost use Rattle.words.specs.Words.{piece};
-ghost use Rattle.forms.specs.Numbers.{seen_code};
-ghost use Rattle.forms.specs.Orders.{seen_command, seen_option};
-ghost use Rattle.forms.specs.Extended.{closed, unit_of, polarity_of, mirror_of, block_of, repeat_of, seen_sides, sides_of, circle_of, rectangle_of, obround_of, shape_of, aperture_of, decimals_of, format_digits, format_of, attribute_of, extended_of};
+ghost use Rattle.std.specs.Prelude.{◌≡◌};
+ghost use Rattle.forms.specs.Numbers.{left, seen_numeral};
+ghost use Rattle.forms.specs.Orders.{seen_option};
+ghost use Rattle.forms.specs.Extended.{unit_of, polarity_of, mirror_of, block_of, repeat_of, seen_sides, sides_of, shape_of, aperture_of, decimals_of, format_digits, format_of, attribute_of, extended_of};
 
-use crate::numbers::{code_after, count_after, size_after};
+use crate::rest::Rest;
 use crate::{AttributeKind, Code, Command, Format, Polarity, Size};
+use numerals::{code_number, count_number, size_millionths};
 use ticks::{Decimals, Unit};
-use words::Part;
 
-// The command, if nothing follows it.
-pub(crate) fn when_closed<'a>(rest: Part<'a>, command: Command<'a>) -> Option<Command<'a>>
-    ensures { seen_option result ≡ closed (piece rest.entry) (seen_command command.entry) }
-{
-    if rest.text.is_empty() {
-        Some(command)
-    } else {
-        None
-    }
-}
+// The next three are each a table of what may stand behind a head; one function for them would take
+// the table as an argument.
 
+#[tactic(auto, unfolding(crate::specs::Extended::unit_of))]
 fn unit(text: &[u8]) -> Option<Command<'_>>
     ensures { seen_option result ≡ unit_of text.now }
 {
@@ -32,6 +24,7 @@ fn unit(text: &[u8]) -> Option<Command<'_>>
     }
 }
 
+#[tactic(auto, unfolding(crate::specs::Extended::polarity_of))]
 fn polarity(text: &[u8]) -> Option<Command<'_>>
     ensures { seen_option result ≡ polarity_of text.now }
 {
@@ -42,6 +35,7 @@ fn polarity(text: &[u8]) -> Option<Command<'_>>
     }
 }
 
+#[tactic(auto, unfolding(crate::specs::Extended::mirror_of))]
 fn mirror(text: &[u8]) -> Option<Command<'_>>
     ensures { seen_option result ≡ mirror_of text.now }
 {
@@ -54,123 +48,86 @@ fn mirror(text: &[u8]) -> Option<Command<'_>>
     }
 }
 
-fn block(from: Part<'_>) -> Option<Command<'_>>
-    requires { from.at + length from.text.now < 2 ^ 64 }
-    ensures { seen_option result ≡ block_of (piece from.entry) }
+#[tactic(auto, unfolding(crate::specs::Extended::block_of))]
+fn block(rest: Rest<'_>) -> Option<Command<'_>>
+    ensures { seen_option result ≡ block_of (left rest.entry) }
 {
-    if from.text.is_empty() {
+    if rest.part.text.is_empty() {
         return Some(Command::BlockClose);
     }
-    let (code, rest) = code_after(from, b'D')?;
-    when_closed(rest, Command::BlockOpen { code })
+    let (code, rest) = rest.numeral_after(b'D', code_number)?;
+    rest.closed(Command::BlockOpen { code })
 }
 
-fn repeat(from: Part<'_>) -> Option<Command<'_>>
-    requires { from.at + length from.text.now < 2 ^ 64 }
-    ensures { seen_option result ≡ repeat_of (piece from.entry) }
+#[tactic(auto, unfolding(crate::specs::Extended::repeat_of))]
+fn repeat(rest: Rest<'_>) -> Option<Command<'_>>
+    ensures { seen_option result ≡ repeat_of (left rest.entry) }
 {
-    if from.text.is_empty() {
+    if rest.part.text.is_empty() {
         return Some(Command::RepeatClose);
     }
-    let (columns, rest) = count_after(from, b'X')?;
-    let (rows, rest) = count_after(rest, b'Y')?;
-    let (step_x, rest) = size_after(rest, b'I')?;
-    let (step_y, rest) = size_after(rest, b'J')?;
-    when_closed(
-        rest,
-        Command::RepeatOpen {
-            columns,
-            rows,
-            step_x,
-            step_y,
-        },
-    )
+    let (columns, rest) = rest.numeral_after(b'X', count_number)?;
+    let (rows, rest) = rest.numeral_after(b'Y', count_number)?;
+    let (step_x, rest) = rest.numeral_after(b'I', size_millionths)?;
+    let (step_y, rest) = rest.numeral_after(b'J', size_millionths)?;
+    rest.closed(Command::RepeatOpen {
+        columns,
+        rows,
+        step_x,
+        step_y,
+    })
 }
 
 // The two sizes of a rectangle or an obround.
-fn sides(from: Part<'_>) -> Option<(Size<'_>, Size<'_>)>
-    requires { from.at + length from.text.now < 2 ^ 64 }
-    ensures { seen_sides result ≡ sides_of (piece from.entry) }
+#[tactic(auto, unfolding(crate::specs::Extended::sides_of))]
+fn sides(rest: Rest<'_>) -> Option<(Size<'_>, Size<'_>)>
+    ensures { seen_sides result ≡ sides_of (left rest.entry) }
 {
-    let (width, rest) = size_after(from, b',')?;
-    let (height, rest) = size_after(rest, b'X')?;
-    if rest.text.is_empty() {
-        Some((width, height))
-    } else {
-        None
-    }
+    let (width, rest) = rest.numeral_after(b',', size_millionths)?;
+    let (height, rest) = rest.numeral_after(b'X', size_millionths)?;
+    rest.closed((width, height))
 }
 
-fn circle<'a>(code: Code<'a>, from: Part<'a>) -> Option<Command<'a>>
-    requires { from.at + length from.text.now < 2 ^ 64 }
-    ensures { seen_option result ≡ circle_of (seen_code code.entry) (piece from.entry) }
+#[tactic(auto, unfolding(crate::specs::Extended::shape_of))]
+fn shape<'a>(code: Code<'a>, rest: Rest<'a>) -> Option<Command<'a>>
+    ensures { seen_option result ≡ shape_of (seen_numeral code.entry) (left rest.entry) }
 {
-    let (diameter, rest) = size_after(from, b',')?;
-    when_closed(rest, Command::Circle { code, diameter })
-}
-
-fn rectangle<'a>(code: Code<'a>, from: Part<'a>) -> Option<Command<'a>>
-    requires { from.at + length from.text.now < 2 ^ 64 }
-    ensures { seen_option result ≡ rectangle_of (seen_code code.entry) (piece from.entry) }
-{
-    let (width, height) = sides(from)?;
-    Some(Command::Rectangle {
-        code,
-        width,
-        height,
-    })
-}
-
-fn obround<'a>(code: Code<'a>, from: Part<'a>) -> Option<Command<'a>>
-    requires { from.at + length from.text.now < 2 ^ 64 }
-    ensures { seen_option result ≡ obround_of (seen_code code.entry) (piece from.entry) }
-{
-    let (width, height) = sides(from)?;
-    Some(Command::Obround {
-        code,
-        width,
-        height,
-    })
-}
-
-fn shape<'a>(code: Code<'a>, from: Part<'a>) -> Option<Command<'a>>
-    requires { from.at + length from.text.now < 2 ^ 64 }
-    ensures { seen_option result ≡ shape_of (seen_code code.entry) (piece from.entry) }
-{
-    match from.text {
-        [b'C', text @ ..] => circle(
-            code,
-            Part {
-                at: from.at + 1,
-                text,
-            },
-        ),
-        [b'R', text @ ..] => rectangle(
-            code,
-            Part {
-                at: from.at + 1,
-                text,
-            },
-        ),
-        [b'O', text @ ..] => obround(
-            code,
-            Part {
-                at: from.at + 1,
-                text,
-            },
-        ),
+    let letter = rest.part.text.first()?;
+    let rest = rest.past(1);
+    match letter {
+        b'C' => {
+            let (diameter, rest) = rest.numeral_after(b',', size_millionths)?;
+            rest.closed(Command::Circle { code, diameter })
+        }
+        b'R' => {
+            let (width, height) = sides(rest)?;
+            Some(Command::Rectangle {
+                code,
+                width,
+                height,
+            })
+        }
+        b'O' => {
+            let (width, height) = sides(rest)?;
+            Some(Command::Obround {
+                code,
+                width,
+                height,
+            })
+        }
         _ => None,
     }
 }
 
-fn aperture(from: Part<'_>) -> Option<Command<'_>>
-    requires { from.at + length from.text.now < 2 ^ 64 }
-    ensures { seen_option result ≡ aperture_of (piece from.entry) }
+#[tactic(auto, unfolding(crate::specs::Extended::aperture_of))]
+fn aperture(rest: Rest<'_>) -> Option<Command<'_>>
+    ensures { seen_option result ≡ aperture_of (left rest.entry) }
 {
-    let (code, rest) = code_after(from, b'D')?;
+    let (code, rest) = rest.numeral_after(b'D', code_number)?;
     shape(code, rest)
 }
 
+// an Option and no TryFrom, since a digit that is none of these is only a form that is none
 fn decimals(digit: u8) -> Option<Decimals>
     ensures { result ≡ decimals_of digit }
 {
@@ -185,60 +142,60 @@ fn decimals(digit: u8) -> Option<Decimals>
 fn format_digits(whole: u8, part: u8) -> Option<Format>
     ensures { result ≡ format_digits whole part }
 {
-    if whole < b'1' || whole > b'6' {
+    if !matches!(whole, b'1'..=b'6') {
         return None;
     }
-    let decimals = decimals(part)?;
     Some(Format {
         whole: whole - b'0',
-        decimals,
+        decimals: decimals(part)?,
     })
 }
 
-fn format(from: Part<'_>) -> Option<Command<'_>>
-    requires { from.at + length from.text.now < 2 ^ 64 }
-    ensures { seen_option result ≡ format_of (piece from.entry) }
+#[tactic(auto, unfolding(crate::specs::Extended::format_of))]
+fn format(rest: Rest<'_>) -> Option<Command<'_>>
+    ensures { seen_option result ≡ format_of (left rest.entry) }
 {
-    let [b'L', b'A', b'X', n, m, b'Y', n2, m2] = from.text else {
+    let [b'L', b'A', b'X', whole, part, b'Y', y_whole, y_part] = rest.part.text else {
         return None;
     };
-    if *n != *n2 || *m != *m2 {
+    if (whole, part) != (y_whole, y_part) {
         return None;
     }
-    let format = format_digits(*n, *m)?;
+    let format = format_digits(*whole, *part)?;
     Some(Command::Format {
-        digits: Part {
-            at: from.at + 3,
-            text: &from.text[3..5],
-        },
+        digits: rest.past(3).front(2),
         format,
     })
 }
 
-fn attribute(kind: AttributeKind, text: Part<'_>) -> Option<Command<'_>>
-    ensures { seen_option result ≡ attribute_of kind (piece text.entry) }
+fn attribute(kind: AttributeKind, rest: Rest<'_>) -> Option<Command<'_>>
+    ensures { seen_option result ≡ attribute_of kind (left rest.entry) }
 {
-    Some(Command::Attribute { kind, text })
+    Some(Command::Attribute {
+        kind,
+        text: rest.part,
+    })
 }
 
 // The command that an extended command's content is.
-pub(crate) fn extended_command(content: Part<'_>) -> Option<Command<'_>>
-    requires { content.at + length content.text.now < 2 ^ 64 }
-    ensures { seen_option result ≡ extended_of (piece content.entry) }
+#[tactic(auto, unfolding(crate::specs::Extended::extended_of))]
+pub(crate) fn extended_command(content: Rest<'_>) -> Option<Command<'_>>
+    ensures { seen_option result ≡ extended_of (left content.entry) }
 {
-    let at = content.at;
-    match content.text {
-        [b'F', b'S', text @ ..] => format(Part { at: at + 2, text }),
-        [b'M', b'O', text @ ..] => unit(text),
-        [b'A', b'D', text @ ..] => aperture(Part { at: at + 2, text }),
-        [b'A', b'B', text @ ..] => block(Part { at: at + 2, text }),
-        [b'S', b'R', text @ ..] => repeat(Part { at: at + 2, text }),
-        [b'L', b'P', text @ ..] => polarity(text),
-        [b'L', b'M', text @ ..] => mirror(text),
-        [b'T', b'F', text @ ..] => attribute(AttributeKind::File, Part { at: at + 2, text }),
-        [b'T', b'A', text @ ..] => attribute(AttributeKind::Aperture, Part { at: at + 2, text }),
-        [b'T', b'O', text @ ..] => attribute(AttributeKind::Object, Part { at: at + 2, text }),
-        [b'T', b'D', text @ ..] => attribute(AttributeKind::Delete, Part { at: at + 2, text }),
+    let head = content.part.text.first_chunk::<2>()?;
+    let rest = content.past(2);
+    match head {
+        b"FS" => format(rest),
+        b"MO" => unit(rest.part.text),
+        b"AD" => aperture(rest),
+        b"AB" => block(rest),
+        b"SR" => repeat(rest),
+        b"LP" => polarity(rest.part.text),
+        b"LM" => mirror(rest.part.text),
+        b"TF" => attribute(AttributeKind::File, rest),
+        b"TA" => attribute(AttributeKind::Aperture, rest),
+        b"TO" => attribute(AttributeKind::Object, rest),
+        b"TD" => attribute(AttributeKind::Delete, rest),
         _ => None,
     }
 }

@@ -11,7 +11,7 @@
 
 #![tactic(auto)]
 
-ghost use Rattle.std.specs.Prelude.{◌≡◌, ◌+◌, ◌^◌, ◌<◌, ◌≤◌, length};
+ghost use Rattle.std.specs.Prelude.{◌≡◌};
 ghost use Rattle.forms.specs.Forms.{form_of, within};
 ghost use Rattle.forms.specs.Orders.{seen_option};
 ghost use Rattle.words.specs.Words.{piece, seen};
@@ -19,55 +19,48 @@ ghost use Rattle.words.specs.Words.{piece, seen};
 mod extended;
 mod numbers;
 mod plain;
+mod rest;
 
 use extended::extended_command;
 use plain::plain_command;
+use rest::Rest;
 use ticks::{Decimals, Unit};
 use words::{Part, Word};
 
-// An aperture code, 10 to 999.
-#[derive(Clone, Copy)]
-pub struct Code<'a> {
+// A number as the file writes it, and its value.
+#[derive(Clone, Copy, PartialEq, Eq, Debug)]
+pub struct Numeral<'a, T> {
     pub part: Part<'a>,
-    pub number: u32,
+    pub value: T,
 }
+
+// An aperture code, 10 to 999.
+pub type Code<'a> = Numeral<'a, u32>;
 
 // A repeat count, 0 to 999.
-#[derive(Clone, Copy)]
-pub struct Count<'a> {
-    pub part: Part<'a>,
-    pub number: u32,
-}
+pub type Count<'a> = Numeral<'a, u32>;
 
 // A size in millionths of the unit.
-#[derive(Clone, Copy)]
-pub struct Size<'a> {
-    pub part: Part<'a>,
-    pub millionths: u64,
-}
+pub type Size<'a> = Numeral<'a, u64>;
 
 // A coordinate as it is written: a whole number, whose decimals the format tells.
-#[derive(Clone, Copy)]
-pub struct Coordinate<'a> {
-    pub part: Part<'a>,
-    pub value: i64,
-}
+pub type Coordinate<'a> = Numeral<'a, i64>;
 
 // The digits of a coordinate before and after the point that is not written.
-#[derive(Clone, Copy)]
+#[derive(Clone, Copy, PartialEq, Eq, Debug)]
 pub struct Format {
     pub whole: u8,
     pub decimals: Decimals,
 }
 
-#[derive(Clone, Copy)]
+#[derive(Clone, Copy, PartialEq, Eq, Debug)]
 pub enum Polarity {
     Dark,
     Clear,
 }
 
 // How a draw goes from the current point.
-#[derive(Clone, Copy)]
+#[derive(Clone, Copy, PartialEq, Eq, Debug)]
 pub enum Mode {
     Linear,
     Clockwise,
@@ -75,7 +68,7 @@ pub enum Mode {
 }
 
 // What an attribute is about: TF, TA, TO; TD takes attributes back.
-#[derive(Clone, Copy)]
+#[derive(Clone, Copy, PartialEq, Eq, Debug)]
 pub enum AttributeKind {
     File,
     Aperture,
@@ -84,7 +77,7 @@ pub enum AttributeKind {
 }
 
 // A command by its form, with the parts of the file that it was read from.
-#[derive(Clone, Copy)]
+#[derive(Clone, Copy, PartialEq, Eq, Debug)]
 pub enum Command<'a> {
     // FSLAXnmYnm: `digits` is the first nm
     Format {
@@ -169,24 +162,16 @@ pub enum Command<'a> {
     },
 }
 
-fn command_of<'a>(word: Word<'a>, longest: usize) -> Option<Command<'a>>
-    requires { word.content.at + length word.content.text.now < 2 ^ 64 }
-    ensures { seen_option result ≡ form_of longest (seen word.entry) }
-{
-    if word.extended {
-        extended_command(word.content)
-    } else {
-        plain_command(word.content, longest)
-    }
-}
-
 // The command that a word is by its form, where a value has at most `longest` digits.
 // (A word past the last address has no form; no file has such a word.)
+#[tactic(auto, unfolding(crate::specs::Forms::form_of))]
 pub fn form_of<'a>(word: Word<'a>, longest: usize) -> Option<Command<'a>>
     ensures { seen_option result ≡ within (piece word.entry.content) (form_of longest (seen word.entry)) }
 {
-    if word.content.at > usize::MAX - word.content.text.len() {
-        return None;
+    let content = Rest::of(word.content)?;
+    if word.extended {
+        extended_command(content)
+    } else {
+        plain_command(content, longest)
     }
-    command_of(word, longest)
 }

@@ -1,27 +1,23 @@
 // The forms of word commands.
 
-ghost use Rattle.std.specs.Prelude.{◌≡◌, ◌+◌, ◌^◌, ◌<◌, ◌≤◌, length, IfSome};
-ghost use Rattle.words.specs.Words.{piece};
+ghost use Rattle.std.specs.Prelude.{◌≡◌};
+ghost use Rattle.std.specs.Option as options;
+ghost use Rattle.forms.specs.Numbers.{left, seen_numeral, seen_then};
 ghost use Rattle.forms.specs.Orders.{seen_option};
-ghost use Rattle.forms.specs.Plain.{comment_of, fixed_of, select_of, seen_maybe, maybe_after, seen_two, seen_pair, pair_of, absent, deed_of, operation_of, plain_of};
+ghost use Rattle.forms.specs.Plain.{comment_of, fixed_of, select_of, maybe_after, seen_two, seen_pair, pair_of, absent, deed_of, operation_of, plain_of};
 
-use crate::extended::when_closed;
-use crate::numbers::{begins, code_after, coordinate_after};
+use crate::rest::Rest;
 use crate::{Command, Coordinate, Mode};
-use words::Part;
+use numerals::{code_number, coordinate_value};
 
-fn comment(content: Part<'_>) -> Option<Command<'_>>
-    requires { content.at + length content.text.now < 2 ^ 64 }
-    ensures { seen_option result ≡ comment_of (piece content.entry) }
+fn comment(content: Rest<'_>) -> Option<Command<'_>>
+    ensures { seen_option result ≡ comment_of (left content.entry) }
 {
-    let [b'G', b'0', b'4', text @ ..] = content.text else {
+    let [b'G', b'0', b'4', ..] = content.part.text else {
         return None;
     };
     Some(Command::Comment {
-        text: Part {
-            at: content.at + 3,
-            text,
-        },
+        text: content.past(3).part,
     })
 }
 
@@ -40,28 +36,26 @@ fn fixed(text: &[u8]) -> Option<Command<'_>>
     }
 }
 
-fn select(content: Part<'_>) -> Option<Command<'_>>
-    requires { content.at + length content.text.now < 2 ^ 64 }
-    ensures { seen_option result ≡ select_of (piece content.entry) }
+fn select(content: Rest<'_>) -> Option<Command<'_>>
+    ensures { seen_option result ≡ select_of (left content.entry) }
 {
-    let (code, rest) = code_after(content, b'D')?;
-    when_closed(rest, Command::Select { code })
+    let (code, rest) = content.numeral_after(b'D', code_number)?;
+    rest.closed(Command::Select { code })
 }
 
 // The coordinate behind the letter, where that letter comes next.
+#[tactic(auto, unfolding(crate::specs::Plain::maybe_after))]
 fn maybe_coordinate<'a>(
-    from: Part<'a>,
+    from: Rest<'a>,
     letter: u8,
     longest: usize,
-) -> Option<(Option<Coordinate<'a>>, Part<'a>)>
-    requires { from.at + length from.text.now < 2 ^ 64 }
-    ensures value { seen_maybe result ≡ maybe_after longest letter (piece from.entry) }
-    ensures ends { IfSome result (λ t. t.1.at + length t.1.text.now < 2 ^ 64) }
+) -> Option<(Option<Coordinate<'a>>, Rest<'a>)>
+    ensures { seen_then (options.option_map seen_numeral) result ≡ maybe_after longest letter (left from.entry) }
 {
-    if !begins(from.text, letter) {
+    if !from.begins(letter) {
         return Some((None, from));
     }
-    let (coordinate, rest) = coordinate_after(from, letter, longest)?;
+    let (coordinate, rest) = from.numeral_after(letter, |text| coordinate_value(text, longest))?;
     Some((Some(coordinate), rest))
 }
 
@@ -70,13 +64,20 @@ fn maybe_coordinate<'a>(
 struct Pair<'a> {
     first: Option<Coordinate<'a>>,
     second: Option<Coordinate<'a>>,
-    rest: Part<'a>,
+    rest: Rest<'a>,
 }
 
-fn two_coordinates<'a>(from: Part<'a>, one: u8, two: u8, longest: usize) -> Option<Pair<'a>>
-    requires { from.at + length from.text.now < 2 ^ 64 }
-    ensures value { seen_pair result ≡ pair_of longest one two (piece from.entry) }
-    ensures ends { IfSome result (λ p. p.rest.at + length p.rest.text.now < 2 ^ 64) }
+impl Pair<'_> {
+    fn is_absent(self) -> bool
+        ensures { result ≡ absent (seen_two self.entry) }
+    {
+        self.first.is_none() && self.second.is_none()
+    }
+}
+
+#[tactic(auto, unfolding(crate::specs::Plain::pair_of))]
+fn two_coordinates<'a>(from: Rest<'a>, one: u8, two: u8, longest: usize) -> Option<Pair<'a>>
+    ensures { seen_pair result ≡ pair_of longest one two (left from.entry) }
 {
     let (first, rest) = maybe_coordinate(from, one, longest)?;
     let (second, rest) = maybe_coordinate(rest, two, longest)?;
@@ -87,19 +88,13 @@ fn two_coordinates<'a>(from: Part<'a>, one: u8, two: u8, longest: usize) -> Opti
     })
 }
 
-fn is_empty(pair: Pair<'_>) -> bool
-    ensures { result ≡ absent (seen_two pair.entry) }
-{
-    pair.first.is_none() && pair.second.is_none()
-}
-
 // The operation that the last three letters tell; only D01 takes an offset to the arc's centre.
 fn deed<'a>(point: Pair<'a>, offset: Pair<'a>) -> Option<Command<'a>>
     ensures { seen_option result ≡ deed_of (seen_two point.entry) (seen_two offset.entry) }
 {
     let (x, y) = (point.first, point.second);
-    let straight = is_empty(offset);
-    match offset.rest.text {
+    let straight = offset.is_absent();
+    match offset.rest.part.text {
         b"D01" => Some(Command::Draw {
             x,
             y,
@@ -112,9 +107,8 @@ fn deed<'a>(point: Pair<'a>, offset: Pair<'a>) -> Option<Command<'a>>
     }
 }
 
-fn operation(content: Part<'_>, longest: usize) -> Option<Command<'_>>
-    requires { content.at + length content.text.now < 2 ^ 64 }
-    ensures { seen_option result ≡ operation_of longest (piece content.entry) }
+fn operation(content: Rest<'_>, longest: usize) -> Option<Command<'_>>
+    ensures { seen_option result ≡ operation_of longest (left content.entry) }
 {
     let point = two_coordinates(content, b'X', b'Y', longest)?;
     let offset = two_coordinates(point.rest, b'I', b'J', longest)?;
@@ -122,14 +116,14 @@ fn operation(content: Part<'_>, longest: usize) -> Option<Command<'_>>
 }
 
 // The command that a word command's content is, where a value has at most `longest` digits.
-pub(crate) fn plain_command(content: Part<'_>, longest: usize) -> Option<Command<'_>>
-    requires { content.at + length content.text.now < 2 ^ 64 }
-    ensures { seen_option result ≡ plain_of longest (piece content.entry) }
+pub(crate) fn plain_command(content: Rest<'_>, longest: usize) -> Option<Command<'_>>
+    ensures { seen_option result ≡ plain_of longest (left content.entry) }
 {
+    // an `or_else` would have to spell out the contract of each closure, since `Rest` has a ghost field
     if let Some(command) = comment(content) {
         return Some(command);
     }
-    if let Some(command) = fixed(content.text) {
+    if let Some(command) = fixed(content.part.text) {
         return Some(command);
     }
     if let Some(command) = select(content) {

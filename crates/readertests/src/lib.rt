@@ -8,6 +8,7 @@
 #[cfg(test)]
 mod tests {
     use commands::{CommandFault, count_commands};
+    use std::process::Abort;
     use std::test::Fail;
     use words::TextFault;
 
@@ -25,15 +26,23 @@ mod tests {
     fn taken(file: &[u8]) -> usize {
         match count_commands(file) {
             Ok(count) => count,
-            Err(CommandFault::Text(TextFault::Byte { taken, .. })) => taken,
-            Err(CommandFault::Text(TextFault::End { taken, .. })) => taken,
-            Err(CommandFault::Form { taken, .. }) => taken,
+            Err(
+                CommandFault::Text(TextFault::Byte { taken, .. } | TextFault::End { taken, .. })
+                | CommandFault::Form { taken, .. },
+            ) => taken,
+        }
+    }
+
+    // Sees that reading each text tells the number, and the count or place that stands beside it.
+    fn tell(rt: &impl Abort, number: u32, cases: &[(&str, usize)]) {
+        for (text, place) in cases {
+            assert_eq!(rt; told(text.as_bytes()), (number, *place), "{}", text);
         }
     }
 
     #[test]
     fn good_texts(rt: HostRuntime) {
-        let cases: [(&str, usize); 11] = [
+        let cases = [
             ("M02*", 1),
             ("M02*\n", 1),
             ("\r\nM02*\r\n", 1),
@@ -46,14 +55,12 @@ mod tests {
             ("%TF.FileFunction,Copper,L1,Top*%M02*", 2),
             ("%TA.AperFunction*%%TO.N,GND*%%TD*%M02*", 4),
         ];
-        for (text, count) in cases {
-            assert_eq!(rt; told(text.as_bytes()), (0, count), "{}", text);
-        }
+        tell(&rt, 0, &cases);
     }
 
     #[test]
     fn good_extended_commands(rt: HostRuntime) {
-        let cases: [(&str, usize); 19] = [
+        let cases = [
             ("%FSLAX34Y34*%M02*", 2),
             ("%FSLAX66Y66*%M02*", 2),
             ("%FSLAX15Y15*%M02*", 2),
@@ -74,14 +81,12 @@ mod tests {
             ("%LPD*%%LPC*%M02*", 3),
             ("%LMN*%%LMX*%%LMY*%%LMXY*%M02*", 5),
         ];
-        for (text, count) in cases {
-            assert_eq!(rt; told(text.as_bytes()), (0, count), "{}", text);
-        }
+        tell(&rt, 0, &cases);
     }
 
     #[test]
     fn good_word_commands(rt: HostRuntime) {
-        let cases: [(&str, usize); 14] = [
+        let cases = [
             ("G01*G02*G03*M02*", 4),
             ("G75*G36*G37*M02*", 4),
             ("D10*D999*M02*", 3),
@@ -97,14 +102,12 @@ mod tests {
             ("%FSLAX34Y34*%%FSLAX36Y36*%X123456789D02*M02*", 4),
             ("X0000D03*M02*", 2),
         ];
-        for (text, count) in cases {
-            assert_eq!(rt; told(text.as_bytes()), (0, count), "{}", text);
-        }
+        tell(&rt, 0, &cases);
     }
 
     #[test]
     fn refused_ends_and_marks(rt: HostRuntime) {
-        let cases: [(&str, u32, usize); 15] = [
+        let cases = [
             ("", 11, 0),
             ("\n\r", 11, 2),
             ("%", 11, 1),
@@ -128,7 +131,7 @@ mod tests {
 
     #[test]
     fn refused_bytes(rt: HostRuntime) {
-        let cases: [(&str, u32, usize); 15] = [
+        let cases = [
             ("G01%", 10, 3),
             ("G0\r1*M02*", 10, 2),
             ("G01\n*M02*", 10, 3),
@@ -152,7 +155,7 @@ mod tests {
 
     #[test]
     fn refused_apertures(rt: HostRuntime) {
-        let cases: [(&str, usize); 20] = [
+        let cases = [
             ("%ADD9C,1*%", 1),
             ("%ADD1000C,1*%", 1),
             ("%ADD010C,1*%", 1),
@@ -174,14 +177,12 @@ mod tests {
             ("%AB10*%", 1),
             ("%ABD10,*%", 1),
         ];
-        for (text, place) in cases {
-            assert_eq!(rt; told(text.as_bytes()), (20, place), "{}", text);
-        }
+        tell(&rt, 20, &cases);
     }
 
     #[test]
     fn refused_repeats_and_polarities(rt: HostRuntime) {
-        let cases: [(&str, usize); 13] = [
+        let cases = [
             ("%SRX0001Y1I0J0*%", 1),
             ("%SRXY1I0J0*%", 1),
             ("%SRX1Y1I0*%", 1),
@@ -196,14 +197,12 @@ mod tests {
             ("%LMYX*%", 1),
             ("%LMXX*%", 1),
         ];
-        for (text, place) in cases {
-            assert_eq!(rt; told(text.as_bytes()), (20, place), "{}", text);
-        }
+        tell(&rt, 20, &cases);
     }
 
     #[test]
     fn refused_formats_and_heads(rt: HostRuntime) {
-        let cases: [(&str, usize); 18] = [
+        let cases = [
             ("%FSLAX34Y35*%", 1),
             ("%FSLAX37Y37*%", 1),
             ("%FSLAX33Y33*%", 1),
@@ -223,14 +222,12 @@ mod tests {
             ("%D10*%", 1),
             ("%X1D01*%", 1),
         ];
-        for (text, place) in cases {
-            assert_eq!(rt; told(text.as_bytes()), (20, place), "{}", text);
-        }
+        tell(&rt, 20, &cases);
     }
 
     #[test]
     fn refused_words(rt: HostRuntime) {
-        let cases: [(&str, usize); 18] = [
+        let cases = [
             ("MOMM*", 0),
             ("LPD*", 0),
             ("TF*", 0),
@@ -250,14 +247,12 @@ mod tests {
             ("D04*", 0),
             ("D1*", 0),
         ];
-        for (text, place) in cases {
-            assert_eq!(rt; told(text.as_bytes()), (20, place), "{}", text);
-        }
+        tell(&rt, 20, &cases);
     }
 
     #[test]
     fn refused_operations(rt: HostRuntime) {
-        let cases: [(&str, usize); 17] = [
+        let cases = [
             ("X1*", 0),
             ("X1Y2*", 0),
             ("XD01*", 0),
@@ -276,14 +271,12 @@ mod tests {
             ("X1234567890123D02*", 0),
             ("X-1234567890123D02*", 0),
         ];
-        for (text, place) in cases {
-            assert_eq!(rt; told(text.as_bytes()), (20, place), "{}", text);
-        }
+        tell(&rt, 20, &cases);
     }
 
     #[test]
     fn refused_later_commands(rt: HostRuntime) {
-        let cases: [(&str, usize, usize); 6] = [
+        let cases = [
             ("%FSLAX34Y34*%X12345678D02*M02*", 13, 1),
             ("G01*X1Y*M02*", 4, 1),
             ("%MOMM*%\n%LPQ*%\nM02*", 9, 1),

@@ -4,10 +4,10 @@ use Rattle.forms.specs.Numbers.{Then, Valued, after, leads, lettered as split_le
 use Rattle.forms.specs.Orders as order
 use Rattle.forms.specs.Orders.{Order}
 use Rattle.numerals.specs.Numerals.{code_number, count_number, size_millionths}
-use Rattle.spellings.proofs.Options.{and_then_some, closed_some, cond_some, mapped_some, never, no_bytes, same}
+use Rattle.spellings.proofs.Options.{and_then_some, closed_some, cond_some, mapped_some}
 use Rattle.spellings.proofs.Tiles.{Tiles, end, head, join, numeral_tiles, spelled, whole_letters, whole_part}
 use Rattle.spellings.specs.Spellings.{Bit, Spelled, lettered, letters, part}
-use Rattle.std.proofs.lemmas.List.{append-nil}
+use Rattle.std.proofs.lemmas.List.{append-nil, nil_from_length}
 use Rattle.std.proofs.lemmas.Bool.{and_from, and_parts, eqb-true}
 use Rattle.forms.specs.declared.AttributeKind.TheVariants as kind
 use Rattle.forms.specs.declared.AttributeKind.{AttributeKind}
@@ -16,6 +16,7 @@ use Rattle.spellings.specs.Spellings.{attribute_letters, written}
 use Rattle.std.specs.List.{between}
 use Rattle.ticks.specs.declared.Unit.TheVariants.{Inch, Millimetre}
 use Rattle.words.specs.Words.{Piece}
+use Rattle.std.proofs.lemmas.Option.{same_Some}
 
 leads_begins : (b : ℕ) (xs : List ℕ) → leads b xs ≡ true → begins (b ∷ []) xs ≡ true
 leads_begins b xs e =
@@ -27,13 +28,13 @@ letter_tiles : (b : ℕ) (c : Piece) (t : Then Piece) → split_lettered b c ≡
 unfolding split_lettered
 letter_tiles b c t e =
     cond_some (Tiles c (letters (b ∷ []) ∷ (part t.value ∷ [])) t.rest) (leads b c.text) (Some (numeral (past 1 c))) None t e
-    (λ l s. subst (λ (t : Then Piece). Tiles c (letters (b ∷ []) ∷ (part t.value ∷ [])) t.rest) (same (numeral (past 1 c)) t s)
+    (λ l s. subst (λ (t : Then Piece). Tiles c (letters (b ∷ []) ∷ (part t.value ∷ [])) t.rest) (same_Some (numeral (past 1 c)) t s)
     (join (head (b ∷ []) 1 c refl (leads_begins b c.text l)) (numeral_tiles (past 1 c))))
-    (λ _ n. absurd (never t n))
+    (λ _ n. cc)
 
 after_at : {V : Type 0} (f : List ℕ → Option V) (b : ℕ) (c : Piece) (t : Then (Valued V)) (s : Option (Then Piece)) → split_lettered b c ≡ s → after f b c ≡ Some t → Tiles c (lettered b t.value) t.rest
 unfolding after
-after_at f b c t None e h = absurd (never t (rw e at h))
+after_at f b c t None e h = let n = rw e at h in cc
 after_at {V} f b c t (Some s) e h =
     let m = mapped_some (λ v. record { value = record { part = s.value; value = v }; rest = s.rest }) (f s.value.text) t (rw e at h) in
     subst (λ (t : Then (Valued V)). Tiles c (lettered b t.value) t.rest) m.2 (letter_tiles b c s e)
@@ -46,7 +47,7 @@ pub block : (w c : Piece) (o : Order) → Tiles w (letters (codes "AB") ∷ []) 
 unfolding block_of
 block w c o p h =
     cond_some (Spelled w o) (eqb (length c.text) 0) (Some order.block_close) _ o h
-    (λ z s. subst (λ (o : Order). Spelled w o) (same order.block_close o s) (spelled order.block_close p (no_bytes c.text (eqb-true (length c.text) 0 z))))
+    (λ z s. subst (λ (o : Order). Spelled w o) (same_Some order.block_close o s) (spelled order.block_close p (nil_from_length c.text (eqb-true (length c.text) 0 z))))
     (λ _ e.
     let k = and_then_some (after code_number 68 c) (λ k. closed k.rest (order.block_open k.value)) o e in
     let q = closed_some k.0.rest (order.block_open k.0.value) o k.2 in
@@ -56,7 +57,7 @@ pub repeat : (w c : Piece) (o : Order) → Tiles w (letters (codes "SR") ∷ [])
 unfolding repeat_of
 repeat w c o p h =
     cond_some (Spelled w o) (eqb (length c.text) 0) (Some order.repeat_close) _ o h
-    (λ z s. subst (λ (o : Order). Spelled w o) (same order.repeat_close o s) (spelled order.repeat_close p (no_bytes c.text (eqb-true (length c.text) 0 z))))
+    (λ z s. subst (λ (o : Order). Spelled w o) (same_Some order.repeat_close o s) (spelled order.repeat_close p (nil_from_length c.text (eqb-true (length c.text) 0 z))))
     (λ _ e.
     let i = and_then_some (after count_number 88 c) _ o e in
     let j = and_then_some (after count_number 89 i.0.rest) _ o i.2 in
@@ -108,7 +109,7 @@ shape w c k o p h =
     (λ b e. rectangle w (past 1 c) k o (join p (head (codes "R") 1 c refl b)) e)
     (λ _ h. cond_some (Spelled w o) (begins (codes "O") c.text) (obround_of k (past 1 c)) None o h
     (λ b e. obround w (past 1 c) k o (join p (head (codes "O") 1 c refl b)) e)
-    (λ _ n. absurd (never o n))))
+    (λ _ n. cc)))
 
 pub aperture : (w c : Piece) (o : Order) → Tiles w (letters (codes "AD") ∷ []) c → aperture_of c ≡ Some o → Spelled w o
 unfolding aperture_of
@@ -118,7 +119,7 @@ aperture w c o p h =
 
 -- letters alone
 pub fixed : (w c : Piece) (hs : List Bit) (x o : Order) (ls : List ℕ) → Tiles w hs c → (Tiles w (hs ++ (letters ls ∷ [])) (end c) → Spelled w x) → is ls c.text ≡ true → Some x ≡ Some o → Spelled w o
-fixed w c hs x o ls p f i e = subst (λ (o : Order). Spelled w o) (same x o e) (f (join p (whole_letters ls c i)))
+fixed w c hs x o ls p f i e = subst (λ (o : Order). Spelled w o) (same_Some x o e) (f (join p (whole_letters ls c i)))
 
 pub unit : (w c : Piece) (o : Order) → Tiles w (letters (codes "MO") ∷ []) c → unit_of c.text ≡ Some o → Spelled w o
 unfolding unit_of
@@ -127,7 +128,7 @@ unit w c o p h =
     (λ i e. fixed w c (letters (codes "MO") ∷ []) (order.unit Millimetre) o (codes "MM") p (λ t. spelled (order.unit Millimetre) t refl) i e)
     (λ _ h. cond_some (Spelled w o) (is (codes "IN") c.text) (Some (order.unit Inch)) None o h
     (λ i e. fixed w c (letters (codes "MO") ∷ []) (order.unit Inch) o (codes "IN") p (λ t. spelled (order.unit Inch) t refl) i e)
-    (λ _ h. absurd (never o h)))
+    (λ _ h. cc))
 
 pub polarity : (w c : Piece) (o : Order) → Tiles w (letters (codes "LP") ∷ []) c → polarity_of c.text ≡ Some o → Spelled w o
 unfolding polarity_of
@@ -136,7 +137,7 @@ polarity w c o p h =
     (λ i e. fixed w c (letters (codes "LP") ∷ []) (order.polarity Dark) o (codes "D") p (λ t. spelled (order.polarity Dark) t refl) i e)
     (λ _ h. cond_some (Spelled w o) (is (codes "C") c.text) (Some (order.polarity Clear)) None o h
     (λ i e. fixed w c (letters (codes "LP") ∷ []) (order.polarity Clear) o (codes "C") p (λ t. spelled (order.polarity Clear) t refl) i e)
-    (λ _ h. absurd (never o h)))
+    (λ _ h. cc))
 
 pub mirror : (w c : Piece) (o : Order) → Tiles w (letters (codes "LM") ∷ []) c → mirror_of c.text ≡ Some o → Spelled w o
 unfolding mirror_of
@@ -149,10 +150,10 @@ mirror w c o p h =
     (λ i e. fixed w c (letters (codes "LM") ∷ []) (order.mirror false true) o (codes "Y") p (λ t. spelled (order.mirror false true) t refl) i e)
     (λ _ h. cond_some (Spelled w o) (is (codes "XY") c.text) (Some (order.mirror true true)) None o h
     (λ i e. fixed w c (letters (codes "LM") ∷ []) (order.mirror true true) o (codes "XY") p (λ t. spelled (order.mirror true true) t refl) i e)
-    (λ _ h. absurd (never o h)))))
+    (λ _ h. cc))))
 
 pub attribute : (w c : Piece) (k : AttributeKind) (o : Order) → Tiles w (letters (attribute_letters k) ∷ []) c → attribute_of k c ≡ Some o → Spelled w o
-attribute w c k o p h = subst (λ (o : Order). Spelled w o) (same (order.attribute k c) o h) (spelled (order.attribute k c) (join p (whole_part c)) refl)
+attribute w c k o p h = subst (λ (o : Order). Spelled w o) (same_Some (order.attribute k c) o h) (spelled (order.attribute k c) (join p (whole_part c)) refl)
 
 -- LAXnmYnm as letters, the digits nm, a letter and the digits again
 format_text : (xs : List ℕ) → eqb (length xs) 8 ≡ true → agrees (codes "LAX") xs 0 ≡ true → eqb (get_or xs 5 0) 89 ≡ true → eqb (get_or xs 3 0) (get_or xs 6 0) ≡ true → eqb (get_or xs 4 0) (get_or xs 7 0) ≡ true
@@ -204,8 +205,8 @@ format w c o p h =
     let v = and_parts (eqb (get_or c.text 3 0) (get_or c.text 6 0)) (eqb (get_or c.text 4 0) (get_or c.text 7 0)) b in
     let m = mapped_some (order.format (digits c)) (format_digits (get_or c.text 3 0) (get_or c.text 4 0)) o h in
     subst (λ (o : Order). Spelled w o) m.2 (spelled (order.format (digits c) m.0) (join p (format_tiles c (format_text c.text t.0 u.0 u.1 v.0 v.1))) refl))
-    (λ _ n. absurd (never o n)))
-    (λ _ n. absurd (never o n))
+    (λ _ n. cc))
+    (λ _ n. cc)
 
 -- extended commands
 pub extended : (c : Piece) (o : Order) → extended_of c ≡ Some o → Spelled c o
@@ -233,4 +234,4 @@ extended c o h =
     (λ b e. attribute c (past 2 c) kind.Object o (head (codes "TO") 2 c refl b) e)
     (λ _ h. cond_some (Spelled c o) (begins (codes "TD") c.text) (attribute_of kind.Delete (past 2 c)) None o h
     (λ b e. attribute c (past 2 c) kind.Delete o (head (codes "TD") 2 c refl b) e)
-    (λ _ h. absurd (never o h))))))))))))
+    (λ _ h. cc)))))))))))

@@ -9,6 +9,12 @@ abbrev pub factor : MeasureUnit → ℕ
 factor Millimetre = 200
 factor Inch = 5080
 
+-- How many decimals there are.
+abbrev pub places_of : Decimals → ℕ
+places_of Four = 4
+places_of Five = 5
+places_of Six = 6
+
 -- A coordinate with m decimals is written as 10^m times its number.
 abbrev pub divisor : Decimals → ℕ
 divisor Four = 10000

@@ -11,7 +11,7 @@
 #![tactic(auto)]
 
 ghost use Rattle.std.specs.Prelude.{◌≡◌, ◌+◌, ◌*◌, ◌^◌, ◌<◌, ◌≤◌, pos, ◌*ℤ◌};
-ghost use Rattle.ticks.specs.Ticks.{Nearest, NearestIsOne, SignSymmetric, divisor, factor, half_ticks, nearest, nearest_z, step_ticks, to_ticks};
+ghost use Rattle.ticks.specs.Ticks.{Nearest, NearestIsOne, SignSymmetric, divisor, factor, half_ticks, nearest, nearest_z, places_of, step_ticks, to_ticks};
 
 // The unit of a file's numbers.
 #[derive(Clone, Copy, PartialEq, Eq, Debug)]
@@ -20,30 +20,40 @@ pub enum Unit {
     Inch,
 }
 
-// How many of a coordinate's digits are decimals.
-#[derive(Clone, Copy, PartialEq, Eq, Debug)]
-pub enum Decimals {
-    Four,
-    Five,
-    Six,
-}
-
-fn ticks_per(unit: Unit) -> u64
-    ensures { (result ≡ factor unit) × (result ≤ 5080) }
-{
-    match unit {
-        Unit::Millimetre => 200,
-        Unit::Inch => 5_080,
+impl Unit {
+    // How many ticks it has.
+    fn ticks(self) -> u64
+        ensures { (result ≡ factor self) × (result ≤ 5080) }
+    {
+        match self {
+            Unit::Millimetre => 200,
+            Unit::Inch => 5_080,
+        }
     }
 }
 
-fn power_of_ten(decimals: Decimals) -> u64
-    ensures { (result ≡ divisor decimals) × ((10000 ≤ result) × (result ≤ 1000000)) }
-{
-    match decimals {
-        Decimals::Four => 10_000,
-        Decimals::Five => 100_000,
-        Decimals::Six => 1_000_000,
+// How many of a coordinate's digits are decimals.
+#[derive(Clone, Copy, PartialEq, Eq, Debug)]
+pub enum Decimals {
+    Four = 4,
+    Five = 5,
+    Six = 6,
+}
+
+impl Decimals {
+    // Their number.
+    pub fn places(self) -> u8
+        ensures value { result ≡ places_of self }
+        ensures bound { result ≤ 6 }
+    {
+        self as u8
+    }
+
+    // The number that one unit is written as.
+    fn divisor(self) -> u64
+        ensures { (result ≡ divisor self) × ((10000 ≤ result) × (result ≤ 1000000)) }
+    {
+        10u64.pow(self.places().into())
     }
 }
 
@@ -56,13 +66,14 @@ fn nearest_of(n: u128, d: u128) -> u128
 }
 
 // size × ticks / d to the nearest whole number: the one rounding of the plotter.
+#[tactic(auto, using(crate::proofs::Rounding::nearest_bound, crate::proofs::Rounding::nearest_law))]
 fn scaled(size: u64, unit: Unit, d: u64) -> u64
     requires { (10000 ≤ d) × (d ≤ 2000000) }
     ensures value { result ≡ nearest (size * factor unit) d }
     ensures law { Nearest (pos (size * factor unit)) d (pos result) }
     ensures bound { 20000 * result ≤ 10160 * size + 10000 }
 {
-    nearest_of(size as u128 * ticks_per(unit) as u128, d as u128) as u64
+    nearest_of(size as u128 * unit.ticks() as u128, d as u128) as u64
 }
 
 // The same of a number with a sign, which the answer keeps.
@@ -80,8 +91,10 @@ pub fn to_ticks(v: i64, decimals: Decimals, unit: Unit) -> i64
     ensures value { result ≡ to_ticks unit decimals v }
     ensures law { Nearest (v *ℤ pos (factor unit)) (divisor decimals) result }
 {
-    scaled_signed(v, unit, power_of_ten(decimals))
+    scaled_signed(v, unit, decimals.divisor())
 }
+
+// The two below name what is scaled, and have nothing else of their own than its divisor.
 
 // Half of a size that is given in millionths of a unit.
 pub fn half_ticks(millionths: u64, unit: Unit) -> u64

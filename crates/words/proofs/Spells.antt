@@ -16,16 +16,13 @@ front_passes p (y ∷ ys) =
 cut_at : (xs : List ℕ) (i n : ℕ) → drop i xs ≡ take n (drop i xs) ++ drop (i + n) xs
 cut_at xs i n = sym (take-append-drop n (drop i xs)) ∙ ap (λ z. take n (drop i xs) ++ z) (drop-drop n i xs)
 
-never_ok : {A E : Type 0} (e : E) (x : A) → ◌≡◌ {A = Result A E} (Err e) (Ok x) → ⊥
-never_ok e x h = let z : ◌≡◌ {A = ℕ} 0 1 = cc in omega arith
-
 same_ok : {A E : Type 0} (x y : A) → ◌≡◌ {A = Result A E} (Ok x) (Ok y) → x ≡ y
 same_ok x y h = cc
 
 -- a good answer came from a good answer
 onward_ok : {A B E : Type 0} (r : Result A E) (f : A → Result B E) (w : B) → onward r f ≡ Ok w → (x : A) × (r ≡ Ok x) × (f x ≡ Ok w)
 onward_ok (Ok x) f w h = (x, refl, h)
-onward_ok (Err e) f w h = absurd (never_ok e w h)
+onward_ok (Err e) f w h = cc
 
 -- the word w stands at i, as it is written
 pub record Spells (xs : List ℕ) (i : ℕ) (w : WordSeen) : Type 0 where
@@ -66,7 +63,7 @@ extended_spells k xs i e w b a p l s h g =
 
 -- the word at i, by whether the file ends there and whether a `%` stands there
 spells_by : (k : ℕ) (xs : List ℕ) (i : ℕ) (w : WordSeen) (a b : Bool) → leb (length xs) i ≡ a → eqb (get_or xs i 0) 37 ≡ b → cond a (Err (fault 11 (length xs) k)) (cond b (onward (star_after k xs (i + 1)) (extended_word k xs (i + 1))) (onward (star_after k xs i) (plain_word xs i))) ≡ Ok w → Spells xs i w
-spells_by k xs i w true b p q h = absurd (never_ok _ w h)
+spells_by k xs i w true b p q h = cc
 spells_by k xs i w false true p q h =
     let o = onward_ok (star_after k xs (i + 1)) (extended_word k xs (i + 1)) w h in
     let f = star_found k xs (i + 1) (prefix_len is_content (drop (i + 1) xs)) o.0 o.1 in

@@ -4,16 +4,18 @@
 // Content is one or more bytes from 32 to 126, without `*` and `%`. CR and LF stand only between
 // commands. A word is a part of the file's own bytes with its place; nothing is copied.
 //
-// `next_word` finds the next word, `close` sees that nothing but CR and LF is left after the last.
+// A `Cursor` stands in a file, behind the commands that were taken. `next_word` finds the word that
+// follows, `close` sees that nothing but CR and LF is left after the last.
 // A refusal is a `TextFault`; it carries the place and how many commands were taken before it.
 // What a word is stands in specs/Words.antt, and in specs/Spelling.antt the law that the words,
 // with their marks and the gaps between them, are the file, byte for byte.
 
 #![tactic(auto)]
 
-ghost use Rattle.std.specs.Prelude.{◌≡◌, ℕ, ◌+◌, ◌<◌, ◌≤◌, length};
+ghost use Rattle.std.specs.Prelude.{◌≡◌, ◌+◌, ◌<◌, ◌≤◌, length, drop, MatchResult, slice_index};
+ghost use Rattle.std.specs.List.{between, prefix_len};
 ghost use Rattle.words.specs.Spelling.{ClosedByGap, WordsAreTheFile};
-ghost use Rattle.words.specs.Words.{Moves, closing, content_end, is_content, is_gap, next_word, seen_word, star_after, told_text, word_start};
+ghost use Rattle.words.specs.Words.{Moves, closing, content_end, fault, is_content, is_gap, next_word, seen_word, star_after, text_told, told_text, word_start, piece};
 
 // Why the text layer refuses a file. `place` is an offset, `taken` the number of commands before it.
 #[derive(Clone, Copy, PartialEq, Eq, Debug)]
@@ -25,129 +27,189 @@ pub enum TextFault {
 }
 
 // A part of the file, and the offset where it stands.
-#[derive(Clone, Copy)]
+#[derive(Clone, Copy, PartialEq, Eq, Debug)]
 pub struct Part<'a> {
     pub at: usize,
     pub text: &'a [u8],
 }
 
 // The text of one command, and the offset behind its last mark.
-#[derive(Clone, Copy)]
+#[derive(Clone, Copy, PartialEq, Eq, Debug)]
 pub struct Word<'a> {
+    // a flag and no enum, since both kinds of word have the same parts
     pub extended: bool,
     pub content: Part<'a>,
     pub next: usize,
 }
 
+// A place in a file, and how many commands were taken before it.
+#[derive(Clone, Copy, PartialEq, Eq, Debug)]
+pub struct Cursor<'a> {
+    pub file: &'a [u8],
+    pub at: usize,
+    pub taken: usize,
+}
+
 fn is_gap(b: u8) -> bool
     ensures { result ≡ is_gap b }
 {
-    b == b'\n' || b == b'\r'
+    matches!(b, b'\n' | b'\r')
 }
 
 fn is_content(b: u8) -> bool
     ensures { result ≡ is_content b }
 {
-    b >= 32 && b <= 126 && b != b'*' && b != b'%'
+    matches!(b, b' '..=b'~') && !matches!(b, b'*' | b'%')
 }
 
-// The first place from `at` on that holds no CR and no LF.
-fn word_start(file: &[u8], at: usize) -> usize
-    ensures { result ≡ word_start file.now at }
+// How many gap bytes the text begins with.
+fn gap_run(text: &[u8]) -> usize
+    ensures value { result ≡ prefix_len is_gap text.now }
+    ensures bound { result ≤ length text.now }
 {
-    let mut i = at;
-    while i < file.len() && is_gap(file[i]) {
-        i += 1;
-    }
-    i
+    text.iter().take_while(|b| is_gap(**b)).count()
 }
 
-// The first place from `at` on that holds no content byte.
-fn content_end(file: &[u8], at: usize) -> usize
-    ensures { result ≡ content_end file.now at }
+// How many content bytes the text begins with.
+fn content_run(text: &[u8]) -> usize
+    ensures value { result ≡ prefix_len is_content text.now }
+    ensures bound { result ≤ length text.now }
 {
-    let mut i = at;
-    while i < file.len() && is_content(file[i]) {
-        i += 1;
-    }
-    i
+    text.iter().take_while(|b| is_content(**b)).count()
 }
 
-// The place of the `*` that ends the content at `from`.
-fn star_after(file: &[u8], from: usize, taken: usize) -> Result<usize, TextFault>
-    ensures { told_text result ≡ star_after taken file.now from }
-{
-    let end = content_end(file, from);
-    if end >= file.len() {
-        return Err(TextFault::End {
-            place: file.len(),
-            taken,
-        });
+impl<'a> Cursor<'a> {
+    /// The start of a file, where no command was taken.
+    pub fn start(file: &'a [u8]) -> Cursor<'a>
+        ensures { result ≡ record { file = file.entry; at = 0; taken = 0 } }
+    {
+        Cursor {
+            file,
+            at: 0,
+            taken: 0,
+        }
     }
-    if file[end] != b'*' || end == from {
-        return Err(TextFault::Byte { place: end, taken });
-    }
-    Ok(end)
-}
 
-// The next command's word from `at` on; `taken` commands came before it.
-// The end of the file is a refusal: a file ends by its own last command.
-pub fn next_word(file: &[u8], at: usize, taken: usize) -> Result<Word<'_>, TextFault>
-    ensures value { seen_word result ≡ next_word taken file.now at }
-    ensures moves { Moves at (length file.now) result }
-{
-    let start = word_start(file, at);
-    if start >= file.len() {
-        return Err(TextFault::End {
-            place: file.len(),
-            taken,
-        });
+    /// The cursor behind the command that ends at `next`, which was taken.
+    pub fn behind(self, next: usize) -> Cursor<'a>
+        requires { self.taken < next }
+        ensures { result ≡ record { file = self.entry.file; at = next; taken = self.entry.taken + 1 } }
+    {
+        Cursor {
+            file: self.file,
+            at: next,
+            taken: self.taken + 1,
+        }
     }
-    if file[start] == b'%' {
-        let from = start + 1;
-        let star = star_after(file, from, taken)?;
-        let mark = star + 1;
-        if mark >= file.len() {
-            return Err(TextFault::End {
-                place: file.len(),
-                taken,
+
+    // The file ends where it may not.
+    fn end_fault(self) -> TextFault
+        ensures { text_told result ≡ fault 11 (length self.entry.file.now) self.entry.taken }
+    {
+        TextFault::End {
+            place: self.file.len(),
+            taken: self.taken,
+        }
+    }
+
+    // The byte at `place` is not allowed there.
+    fn byte_fault(self, place: usize) -> TextFault
+        ensures { text_told result ≡ fault 10 place self.entry.taken }
+    {
+        TextFault::Byte {
+            place,
+            taken: self.taken,
+        }
+    }
+
+    // The byte at `place`, where the file may not end.
+    fn byte_at(self, place: usize) -> Result<u8, TextFault>
+        ensures { MatchResult result (λ b. (place < length self.entry.file.now) × (b ≡ slice_index self.entry.file.now place)) (λ e. (length self.entry.file.now ≤ place) × (text_told e ≡ fault 11 (length self.entry.file.now) self.entry.taken)) }
+    {
+        self.file.get(place).copied().ok_or(self.end_fault())
+    }
+
+    // What the file has from `from` on.
+    fn rest(self, from: usize) -> &'a [u8]
+        ensures { result.now ≡ drop from self.entry.file.now }
+    {
+        &self.file[from.min(self.file.len())..]
+    }
+
+    // The first place from `at` on that holds no CR and no LF.
+    fn word_start(self) -> usize
+        ensures { result ≡ word_start self.entry.file.now self.entry.at }
+    {
+        self.at + gap_run(self.rest(self.at))
+    }
+
+    // The first place from `from` on that holds no content byte.
+    fn content_end(self, from: usize) -> usize
+        ensures { result ≡ content_end self.entry.file.now from }
+    {
+        from + content_run(self.rest(from))
+    }
+
+    // The place of the `*` that ends the content at `from`.
+    fn star_after(self, from: usize) -> Result<usize, TextFault>
+        ensures { told_text result ≡ star_after self.entry.taken self.entry.file.now from }
+    {
+        let end = self.content_end(from);
+        if self.byte_at(end)? != b'*' || end == from {
+            return Err(self.byte_fault(end));
+        }
+        Ok(end)
+    }
+
+    // The part of the file from `from` to `end`.
+    fn part(self, from: usize, end: usize) -> Part<'a>
+        requires { (from ≤ end) × (end ≤ length self.file.now) }
+        ensures { piece result ≡ record { at = from; text = between from end self.entry.file.now } }
+    {
+        Part {
+            at: from,
+            text: &self.file[from..end],
+        }
+    }
+
+    /// The next command's word.
+    /// The end of the file is a refusal: a file ends by its own last command.
+    pub fn next_word(self) -> Result<Word<'a>, TextFault>
+        ensures value { seen_word result ≡ next_word self.entry.taken self.entry.file.now self.entry.at }
+        ensures moves { Moves self.entry.at (length self.entry.file.now) result }
+    {
+        let start = self.word_start();
+        if self.byte_at(start)? != b'%' {
+            let star = self.star_after(start)?;
+            return Ok(Word {
+                extended: false,
+                content: self.part(start, star),
+                next: star + 1,
             });
         }
-        if file[mark] != b'%' {
-            return Err(TextFault::Byte { place: mark, taken });
+        let from = start + 1;
+        let star = self.star_after(from)?;
+        let mark = star + 1;
+        if self.byte_at(mark)? != b'%' {
+            return Err(self.byte_fault(mark));
         }
-        let content = Part {
-            at: from,
-            text: &file[from..star],
-        };
         Ok(Word {
             extended: true,
-            content,
+            content: self.part(from, star),
             next: mark + 1,
         })
-    } else {
-        let star = star_after(file, start, taken)?;
-        let content = Part {
-            at: start,
-            text: &file[start..star],
-        };
-        Ok(Word {
-            extended: false,
-            content,
-            next: star + 1,
-        })
     }
-}
 
-// Sees that nothing but CR and LF stands from `at` on, where the last of `taken` commands ended.
-pub fn close(file: &[u8], at: usize, taken: usize) -> Result<(), TextFault>
-    ensures { told_text result ≡ closing taken file.now at }
-{
-    let rest = word_start(file, at);
-    if rest < file.len() {
-        return Err(TextFault::Byte { place: rest, taken });
+    /// Sees that nothing but CR and LF is left behind the last command.
+    pub fn close(self) -> Result<(), TextFault>
+        ensures { told_text result ≡ closing self.entry.taken self.entry.file.now self.entry.at }
+    {
+        let rest = self.word_start();
+        if rest < self.file.len() {
+            return Err(self.byte_fault(rest));
+        }
+        Ok(())
     }
-    Ok(())
 }
 
 // The law of the layer: gaps and words as they are written are the file, and a closed file ends in a gap.
