@@ -22,11 +22,13 @@ pub record Counting (xs : List ℕ) (c : Cursor) (f : Option Format) : Type 0 wh
   pub within : c.at ≤ length xs
 
 -- the same behind a command that is not the last
-pub counting_on : (xs : List ℕ) (c d : Cursor) (f g : Option Format) (r : ReadSeen) → Counting xs c f → d ≡ record { file = c.file; at = r.next; taken = c.taken + 1 } → g ≡ format_after r.order f
+pub counting_on : (xs : List ℕ) (c d : Cursor) (f g : Option Format) (r : ReadSeen) → Counting xs c f → (c.taken < r.next → d ≡ record { file = c.file; at = r.next; taken = c.taken + 1 }) → g ≡ format_after r.order f
     → Ok r ≡ command_at c.taken c.file.now c.at f → (c.at < r.next) × (r.next ≤ length c.file.now) → false ≡ is_end r.order → Counting xs d g
 counting_on xs c d f g r h p q e m z =
     let l : length c.file.now ≡ length xs = ap length h.file in
-    rw (p, q) (record {
+    let t : c.taken < r.next = omega arith in
+    let b = p t in
+    rw (b, q) (record {
       file = h.file;
       count = run_more (length xs) c.taken xs c.at f r (omega arith) (subst (λ ys. Ok r ≡ command_at c.taken ys c.at f) h.file e) (sym z) ∙ h.count;
       taken = omega arith;

@@ -12,7 +12,7 @@
 
 #![tactic(auto)]
 
-ghost use Rattle.std.specs.Prelude.{◌≡◌, ◌+◌, ◌<◌, ◌≤◌, length, drop, MatchResult, slice_index};
+ghost use Rattle.std.specs.Prelude.{◌≡◌, ◌+◌, ◌-◌, ◌^◌, ◌<◌, ◌≤◌, min, length, drop, MatchResult, slice_index};
 ghost use Rattle.std.specs.List.{between, prefix_len};
 ghost use Rattle.words.specs.Spelling.{ClosedByGap, WordsAreTheFile};
 ghost use Rattle.words.specs.Words.{Moves, closing, content_end, fault, is_content, is_gap, next_word, seen_word, star_after, text_told, told_text, word_start, piece};
@@ -90,15 +90,16 @@ impl<'a> Cursor<'a> {
         }
     }
 
-    /// The cursor behind the command that ends at `next`, which was taken.
+    /// The cursor behind the command that ends at `next`, which was taken. (A count that no file can
+    /// come to stays at the greatest number.)
     pub fn behind(self, next: usize) -> Cursor<'a>
-        requires { self.taken < next }
-        ensures { result ≡ record { file = self.entry.file; at = next; taken = self.entry.taken + 1 } }
+        ensures value { result ≡ record { file = self.entry.file; at = next; taken = min (self.entry.taken + 1) (2 ^ 64 - 1) } }
+        ensures counted { self.entry.taken < next → result ≡ record { file = self.entry.file; at = next; taken = self.entry.taken + 1 } }
     {
         Cursor {
             file: self.file,
             at: next,
-            taken: self.taken + 1,
+            taken: self.taken.saturating_add(1),
         }
     }
 
