@@ -1,15 +1,17 @@
 -- Where a pixel's bit lies.
-use Rattle.std.proofs.Common.{◌≡◌, ℕ, ◌+◌, ◌-◌, ◌*◌, ◌/◌, ◌%◌, ◌^◌, ◌<◌, ◌≤◌, Bool, true, false, cond, ◌&&◌, eqb, ltb, leb, List, [], ◌++◌, length, get_or, drop, replicate, Some, None, Ok, Err, sym, refl, ap, ◌∙◌, ⊎_elim, arith}
+use Rattle.std.proofs.Common.{◌≡◌, ℕ, ◌+◌, ◌-◌, ◌*◌, ◌/◌, ◌%◌, ◌^◌, ◌<◌, ◌≤◌, Bool, true, false, cond, ◌&&◌, eqb, ltb, leb, List, [], ◌++◌, map, length, get_or, take, drop, replicate, Some, None, Ok, sym, refl, ap, ◌∙◌, ⊎_elim, arith}
 use native.Mathlib.Nat.{zero-div}
 use lib.ListN.{length-replicate}
 use Rattle.std.proofs.lemmas.Nat.{mul-le}
-use Rattle.std.proofs.lemmas.List.{get_or_append_left, get_or-replicate}
+use Rattle.std.proofs.lemmas.List.{get_or_append_left, get_or-replicate, length-drop, length-take-le, places}
+use Rattle.std.specs.List.{range_with_len}
+use Rattle.std.proofs.lemmas.List.FromFn.{fill_by_all}
 use Rattle.std.proofs.lemmas.Bool.{cases_order, cases_lt, le-leb}
 use Rattle.std.proofs.lemmas.Bool.Decides.{nat_tests}
 use Rattle.bits.specs.Bits.{bit_in, bit_of, among}
 use Rattle.bits.proofs.Rows.{byte_is}
 use Rattle.film.specs.Faults.{call}
-use Rattle.film.specs.Film.{Beside, SpanWritten, in_span, read_of}
+use Rattle.film.specs.Film.{Beside, SpanWritten, in_span}
 use Rattle.film.specs.Made.{frame_of}
 use Rattle.film.specs.Packed.{bytes_for, inked, byte_of}
 use Rattle.film.specs.declared.numbers.Numbers.{Numbers}
@@ -34,6 +36,11 @@ in_run_lem row first end s c r k lt = ⊎_elim
 pub record Filled (w row first end : ℕ) (dark : Bool) (xs ys : List ℕ) : Type 0 where
   pub bits : (m : ℕ) → m / 8 < length xs → bit_of ys m ≡ cond (among (row * (8 * bytes_for w) + first) (row * (8 * bytes_for w) + end) m) dark (bit_of xs m)
   pub after : (k : ℕ) → row * (8 * bytes_for w) + end ≤ 8 * k → drop k ys ≡ drop k xs
+
+pub filled_at : (w row first end start : ℕ) (dark : Bool) (xs ys : List ℕ) → start ≡ row * (8 * bytes_for w)
+    → ((m : ℕ) → m / 8 < length xs → bit_of ys m ≡ cond (among (start + first) (start + end) m) dark (bit_of xs m))
+    → ((k : ℕ) → start + end ≤ 8 * k → drop k ys ≡ drop k xs) → Filled w row first end dark xs ys
+filled_at w row first end start dark xs ys e b a = record { bits = rw e at b; after = rw e at a }
 
 pixel_after : (w h row first end c r : ℕ) (dark : Bool) (xs ys : List ℕ) → Filled w row first end dark xs ys → h * bytes_for w ≤ length xs
     → end ≤ w → r < h → c < 8 * bytes_for w → pixel_of ys w c r ≡ cond (in_span row first end c r) dark (pixel_of xs w c r)
@@ -71,13 +78,6 @@ beside_kept n row first end dark xs ys a d f =
     let B : List ℕ → Beside = λ zs. record { memory = zs; pixels = [] } in
     ap B (f.after (own_bytes n) (omega arith))
 
--- reading answers the bit
-pub read_answers : (n : Numbers) (xs : List ℕ) (col row : ℕ) → col < n.width → row < n.height
-    → Ok (pixel_of xs n.width col row) ≡ read_of (bitmap_meaning xs n) col row
-read_answers n xs col row h k =
-    let u : (ltb col n.width && ltb row n.height) ≡ true = grind (arith, nat_tests) in
-    ap (λ b. cond b (Ok (pixel_of xs n.width col row)) (Err (call 4))) (sym u)
-
 -- a byte of a row, as the row's pixels make it
 pub row_byte : (n : Numbers) (xs : List ℕ) (row k b : ℕ) → ((c r : ℕ) → padding n c r ≡ true → pixel_of xs n.width c r ≡ false)
     → row < n.height → k < bytes_for n.width → b < 256 → b ≡ get_or xs (row * bytes_for n.width + k) 0
@@ -91,6 +91,24 @@ row_byte n xs row k b p hr hk lt e = byte_is (inked (bitmap_meaning xs n) row) k
     (λ (w : 8 * k + j < n.width). sym q ∙ (let t : ltb (8 * k + j) n.width ≡ true = grind (arith, nat_tests) in ap (λ v. v && pixel_of xs n.width (8 * k + j) row) (sym t)))
     (λ (w : n.width ≤ 8 * k + j). sym q ∙ p (8 * k + j) row (grind (arith, nat_tests)) ∙ (let t : ltb (8 * k + j) n.width ≡ false = grind (arith, nat_tests) in ap (λ v. v && pixel_of xs n.width (8 * k + j) row) (sym t)))
     (cases_lt (8 * k + j) n.width))
+
+-- the bytes of a row's place are the row's
+pub row_packed : (n : Numbers) (xs ys zs : List ℕ) (row : ℕ) → ((c r : ℕ) → padding n c r ≡ true → pixel_of xs n.width c r ≡ false)
+    → row < n.height → own_bytes n ≤ length xs → ((k : ℕ) → get_or (ys ++ zs) k 0 < 256)
+    → ys ≡ take (bytes_for n.width) (drop (row * bytes_for n.width) xs)
+    → ys ≡ map (byte_of (inked (bitmap_meaning xs n) row)) (range_with_len 0 (bytes_for n.width))
+row_packed n xs ys zs row p h l f e =
+    let s = bytes_for n.width in
+    let q = row_room row n.height s h in
+    let d = length-drop (row * s) xs in
+    let t : length ys ≡ s = ap length e ∙ length-take-le s (drop (row * s) xs) (omega arith) in
+    fill_by_all (byte_of (inked (bitmap_meaning xs n) row)) ys s 0 t (λ k lt.
+    let a : get_or ys k 0 ≡ get_or xs (row * s + k) 0 = ap (λ ws. get_or ws k 0) e ∙ grind (arith, places) in
+    let b : get_or ys k 0 < 256 = rw (get_or_append_left ys zs 0 k (omega arith)) at (f k) in
+    row_byte n xs row k (get_or ys k 0) p h lt b a)
+
+pub row_part : (xs ws : List ℕ) (row b n : ℕ) → b ≡ n → ws ≡ xs → take (row * b + b - row * b) (drop (row * b) ws) ≡ take n (drop (row * n) xs)
+row_part xs ws row b n e f = let z : row * n + n - row * n ≡ n = omega arith in rw e (rw f (rw z))
 
 -- a bit of bytes that were cleared
 clear_bit : (n m : ℕ) (xs ys : List ℕ) → ys ≡ replicate n 0 ++ drop n xs → m / 8 < n → bit_of ys m ≡ false

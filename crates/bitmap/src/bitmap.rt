@@ -1,11 +1,13 @@
 // A film in the bytes of a bitmap.
-ghost use Rattle.std.specs.Prelude.{◌≡◌, ℕ, ◌≤◌, true, false, vec_len};
+ghost use Rattle.std.specs.Prelude.{◌≡◌, ℕ, ◌*◌, ◌≤◌, true, false, vec_len};
+ghost use Rattle.film.specs.Packed.{bytes_for};
 ghost use Rattle.bitmap.specs.Pixels.{own_bytes, padding, pixel_of, bitmap_meaning, bitmap_beside};
 
 use bits::{bit_at, fill_bits};
 use film::fault::FilmFault;
 use film::film::Film;
 use film::numbers::Numbers;
+use film::span::Span;
 
 #[derive(Drop)]
 pub struct Bitmap {
@@ -25,39 +27,39 @@ impl Film for Bitmap {
     }
 
     fn read(&self, col: u32, row: u32) -> Result<bool, FilmFault> {
-        if col >= self.numbers.width || row >= self.numbers.height {
+        if !self.numbers.has_pixel(col, row) {
             return Err(FilmFault::Off);
         }
-        let start = row as usize * (8 * ((self.numbers.width as usize + 7) / 8));
+        let start = first_bit(self.numbers, row);
         Ok(bit_at(&self.bytes, start + col as usize))
     }
 
-    fn write_span(&mut self, row: u32, first: u32, end: u32, dark: bool) -> Result<(), FilmFault> {
-        if row >= self.numbers.height || first > end || end > self.numbers.width {
+    fn write_span(&mut self, span: Span, dark: bool) -> Result<(), FilmFault> {
+        if !self.numbers.has_span(span) {
             return Err(FilmFault::Off);
         }
-        let start = row as usize * (8 * ((self.numbers.width as usize + 7) / 8));
+        let start = first_bit(self.numbers, span.row);
         fill_bits(
             &mut self.bytes,
-            start + first as usize,
-            start + end as usize,
+            start + span.first as usize,
+            start + span.end as usize,
             dark,
         );
         Ok(())
     }
 
     fn pack_row(&self, row: u32, out: &mut [u8]) -> Result<(), FilmFault> {
-        if row >= self.numbers.height {
-            return Err(FilmFault::Off);
-        }
-        let bytes = (self.numbers.width as usize + 7) / 8;
-        if out.len() < bytes {
-            return Err(FilmFault::Short);
-        }
+        let bytes = self.numbers.packed_length(row, out.len())?;
         let start = row as usize * bytes;
-        for k in 0..bytes {
-            out[k] = self.bytes[start + k];
-        }
+        out[..bytes].copy_from_slice(&self.bytes[start..start + bytes]);
         Ok(())
     }
+}
+
+// The place of a row's first bit among all bits.
+fn first_bit(n: Numbers, row: u32) -> usize
+    ensures is { result ≡ row * (8 * bytes_for n.width) }
+    ensures small { result ≤ row * 30000 }
+{
+    row as usize * (8 * n.row_length())
 }

@@ -20,10 +20,9 @@ fn bit_in(b: u8, i: u32) -> bool
 pub fn bit_at(bytes: &[u8], n: usize) -> bool
     ensures { result ≡ bit_of bytes.now n }
 {
-    if n / 8 < bytes.len() {
-        return bit_in(bytes[n / 8], (n % 8) as u32);
-    }
-    false
+    bytes
+        .get(n / 8)
+        .is_some_and(|byte| bit_in(*byte, (n % 8) as u32))
 }
 
 // A byte whose bits from i on are 1.
@@ -43,13 +42,6 @@ fn with_bits(b: u8, i: u32, j: u32, dark: bool) -> u8
     if dark { b | mask } else { b & !mask }
 }
 
-// How many bytes n bits take.
-fn byte_end(n: usize) -> usize
-    ensures { result ≡ (n + 7) / 8 }
-{
-    n / 8 + (n % 8 + 7) / 8
-}
-
 // Makes the bits from `from` to `to`, which is not one of them, dark or clear.
 pub fn fill_bits(bytes: &mut [u8], from: usize, to: usize, dark: bool)
     ensures filled { (n : ℕ) → n / 8 < length bytes.old → bit_of bytes.new n ≡ (if among from to n then dark else bit_of bytes.old n) }
@@ -60,7 +52,8 @@ pub fn fill_bits(bytes: &mut [u8], from: usize, to: usize, dark: bool)
     if from >= to {
         return;
     }
-    let last = byte_end(to).min(bytes.len());
+    let last = to.div_ceil(8).min(bytes.len());
+    // The index is also the byte's place, which tells its bits.
     for k in from / 8..last {
         let i = from.saturating_sub(8 * k);
         let j = (to - 8 * k).min(8);

@@ -4,7 +4,6 @@ use plane::points::{Bounds, FileCentre, FilePoint, Half, Place, Placing, Point};
 use shapes::flashes::{Circle, Obround, Rectangle};
 use shapes::shape::Shape;
 use std::process::Abort;
-use std::test::Fail;
 use strokes::strokes::{ArcStroke, Stroke};
 
 // a point, and whether it is covered
@@ -32,33 +31,29 @@ const fn no(x: i32, y: i32) -> Case {
 }
 
 fn lies_in(b: Bounds, x: i32, y: i32) -> bool {
-    b.left <= x && x <= b.right && b.bottom <= y && y <= b.top
+    (b.left..=b.right).contains(&x) && (b.bottom..=b.top).contains(&y)
 }
 
-fn agrees_at<S: Shape>(rt: &impl Abort, shape: &S, c: Case) -> Result<(), Fail> {
-    match Point::new(c.x, c.y) {
-        Some(p) => {
-            assert_eq!(rt; shape.covers(p), c.covered);
-            assert!(rt; !c.covered || lies_in(shape.bounds(), c.x, c.y));
-            Ok(())
-        }
-        None => Err(Fail::new("no such point")),
-    }
+fn agrees_at<S: Shape>(rt: &impl Abort, shape: &S, c: Case) {
+    let p = Point::new(c.x, c.y).expect(rt, "no such point");
+    assert_eq!(rt; shape.covers(p), c.covered);
+    assert!(rt; !c.covered || lies_in(shape.bounds(), c.x, c.y));
 }
 
 // the shape covers what the cases say, within its box, and not the farthest points of the plane
-fn agrees<S: Shape>(rt: &impl Abort, shape: &S, cases: &[Case]) -> Result<(), Fail> {
+fn agrees<S: Shape>(rt: &impl Abort, shape: &S, cases: &[Case]) {
     for c in cases {
-        agrees_at(rt, shape, *c)?;
+        agrees_at(rt, shape, *c);
     }
-    agrees_at(rt, shape, no(1_000_000, 1_000_000))?;
-    agrees_at(rt, shape, no(-1_000_000, 1_000_000))?;
-    agrees_at(rt, shape, no(1_000_000, -1_000_000))?;
-    agrees_at(rt, shape, no(-1_000_000, -1_000_000))
+    for x in [-1_000_000, 1_000_000] {
+        for y in [-1_000_000, 1_000_000] {
+            agrees_at(rt, shape, no(x, y));
+        }
+    }
 }
 
 #[test]
-fn circles(rt: HostRuntime) -> Result<(), Fail> {
+fn circles(rt: HostRuntime) {
     let small = Circle {
         place: Place { x: 0, y: 0 },
         half: Half { ticks: 5 },
@@ -67,12 +62,12 @@ fn circles(rt: HostRuntime) -> Result<(), Fail> {
         &rt,
         &small,
         &[yes(3, 4), no(4, 4), yes(5, 0), no(6, 0), yes(-3, -4)],
-    )?;
+    );
     let none = Circle {
         place: Place { x: 0, y: 0 },
         half: Half { ticks: 0 },
     };
-    agrees(&rt, &none, &[no(0, 0), no(1, 0)])?;
+    agrees(&rt, &none, &[no(0, 0), no(1, 0)]);
     let far = Circle {
         place: Place {
             x: 345_000,
@@ -89,11 +84,11 @@ fn circles(rt: HostRuntime) -> Result<(), Fail> {
             yes(348_000, -341_000),
             no(348_001, -341_000),
         ],
-    )
+    );
 }
 
 #[test]
-fn rectangles(rt: HostRuntime) -> Result<(), Fail> {
+fn rectangles(rt: HostRuntime) {
     let small = Rectangle {
         place: Place { x: 1, y: 1 },
         a: Half { ticks: 3 },
@@ -103,13 +98,13 @@ fn rectangles(rt: HostRuntime) -> Result<(), Fail> {
         &rt,
         &small,
         &[yes(4, 3), yes(-2, -1), no(5, 1), no(1, 4), no(-3, 1)],
-    )?;
+    );
     let dot = Rectangle {
         place: Place { x: 0, y: 0 },
         a: Half { ticks: 0 },
         b: Half { ticks: 0 },
     };
-    agrees(&rt, &dot, &[yes(0, 0), no(1, 0), no(0, -1)])?;
+    agrees(&rt, &dot, &[yes(0, 0), no(1, 0), no(0, -1)]);
     let far = Rectangle {
         place: Place {
             x: -345_000,
@@ -126,11 +121,11 @@ fn rectangles(rt: HostRuntime) -> Result<(), Fail> {
             no(-350_001, 345_000),
             no(-345_000, 345_002),
         ],
-    )
+    );
 }
 
 #[test]
-fn obrounds(rt: HostRuntime) -> Result<(), Fail> {
+fn obrounds(rt: HostRuntime) {
     let lying = Obround {
         place: Place { x: 0, y: 0 },
         a: Half { ticks: 5 },
@@ -147,7 +142,7 @@ fn obrounds(rt: HostRuntime) -> Result<(), Fail> {
             no(6, 0),
             no(0, 3),
         ],
-    )?;
+    );
     let upright = Obround {
         place: Place { x: 0, y: 0 },
         a: Half { ticks: 2 },
@@ -164,7 +159,7 @@ fn obrounds(rt: HostRuntime) -> Result<(), Fail> {
             no(0, 6),
             no(3, 0),
         ],
-    )?;
+    );
     let far = Obround {
         place: Place {
             x: 345_000,
@@ -181,11 +176,11 @@ fn obrounds(rt: HostRuntime) -> Result<(), Fail> {
             yes(348_000, 349_000),
             no(348_000, 349_001),
         ],
-    )
+    );
 }
 
 #[test]
-fn strokes_of_the_rules(rt: HostRuntime) -> Result<(), Fail> {
+fn strokes_of_the_rules(rt: HostRuntime) {
     let slanted = Stroke {
         start: Place { x: 0, y: 0 },
         end: Place { x: 30, y: 40 },
@@ -202,19 +197,19 @@ fn strokes_of_the_rules(rt: HostRuntime) -> Result<(), Fail> {
             yes(33, 44),
             yes(15, 20),
         ],
-    )?;
+    );
     let still = Stroke {
         start: Place { x: 0, y: 0 },
         end: Place { x: 0, y: 0 },
         half: Half { ticks: 5 },
     };
-    agrees(&rt, &still, &[yes(3, 4), no(4, 4), no(100, 100)])?;
+    agrees(&rt, &still, &[yes(3, 4), no(4, 4), no(100, 100)]);
     let none = Stroke {
         start: Place { x: 0, y: 0 },
         end: Place { x: 10, y: 0 },
         half: Half { ticks: 0 },
     };
-    agrees(&rt, &none, &[no(0, 0), no(5, 0), no(10, 0)])?;
+    agrees(&rt, &none, &[no(0, 0), no(5, 0), no(10, 0)]);
     let long = Stroke {
         start: Place {
             x: -345_000,
@@ -236,11 +231,11 @@ fn strokes_of_the_rules(rt: HostRuntime) -> Result<(), Fail> {
             yes(350_000, 345_000),
             no(350_001, 345_000),
         ],
-    )
+    );
 }
 
 #[test]
-fn arcs_of_the_rules(rt: HostRuntime) -> Result<(), Fail> {
+fn arcs_of_the_rules(rt: HostRuntime) {
     let centre = Place { x: 0, y: 0 };
     let start = Place { x: 50, y: 0 };
     let end = Place { x: 0, y: 50 };
@@ -263,7 +258,7 @@ fn arcs_of_the_rules(rt: HostRuntime) -> Result<(), Fail> {
             no(-36, 48),
             no(23, 32),
         ],
-    )?;
+    );
     let right = ArcStroke {
         centre,
         start,
@@ -275,7 +270,7 @@ fn arcs_of_the_rules(rt: HostRuntime) -> Result<(), Fail> {
         &rt,
         &right,
         &[yes(-36, 48), no(36, 48), yes(-30, -40), yes(50, 3)],
-    )?;
+    );
     let ring = ArcStroke {
         centre,
         start,
@@ -294,7 +289,7 @@ fn arcs_of_the_rules(rt: HostRuntime) -> Result<(), Fail> {
             no(0, -39),
             no(0, 0),
         ],
-    )?;
+    );
     let filled = ArcStroke {
         centre,
         start: Place { x: 5, y: 0 },
@@ -302,11 +297,11 @@ fn arcs_of_the_rules(rt: HostRuntime) -> Result<(), Fail> {
         half,
         clockwise: false,
     };
-    agrees(&rt, &filled, &[yes(0, 0), yes(-15, 0), no(-16, 0)])
+    agrees(&rt, &filled, &[yes(0, 0), yes(-15, 0), no(-16, 0)]);
 }
 
 #[test]
-fn arcs_of_the_greatest_size(rt: HostRuntime) -> Result<(), Fail> {
+fn arcs_of_the_greatest_size(rt: HostRuntime) {
     let centre = Place {
         x: -345_000,
         y: -345_000,
@@ -337,7 +332,7 @@ fn arcs_of_the_greatest_size(rt: HostRuntime) -> Result<(), Fail> {
             yes(66_000, 203_000),
             no(65_999, 203_000),
         ],
-    )?;
+    );
     let rest = ArcStroke {
         centre,
         start,
@@ -353,11 +348,11 @@ fn arcs_of_the_greatest_size(rt: HostRuntime) -> Result<(), Fail> {
             yes(-759_000, -897_000),
             no(-345_000, -345_000),
         ],
-    )
+    );
 }
 
 #[test]
-fn contours(rt: HostRuntime) -> Result<(), Fail> {
+fn contours(rt: HostRuntime) {
     let start = FilePoint { x: 0, y: 0 };
     let right = Piece {
         end: FilePoint { x: 10, y: 0 },
@@ -383,37 +378,32 @@ fn contours(rt: HostRuntime) -> Result<(), Fail> {
         dy: -300_000,
         level: 8,
     };
-    match Contour::new(start, &tile, here) {
-        Some(c) => agrees(
-            &rt,
-            &c,
-            &[
-                yes(0, 0),
-                yes(0, 5),
-                yes(9, 9),
-                no(10, 5),
-                no(5, 10),
-                no(-1, 5),
-                no(5, -1),
-            ],
-        )?,
-        None => return Err(Fail::new("it is closed")),
-    }
-    match Contour::new(start, &tile, far) {
-        Some(c) => agrees(
-            &rt,
-            &c,
-            &[
-                yes(299_990, -300_000),
-                yes(299_999, -299_991),
-                no(300_000, -299_995),
-                no(299_995, -299_990),
-            ],
-        )?,
-        None => return Err(Fail::new("it is closed")),
-    }
+    let near = Contour::new(start, &tile, here).expect(&rt, "it is closed");
+    agrees(
+        &rt,
+        &near,
+        &[
+            yes(0, 0),
+            yes(0, 5),
+            yes(9, 9),
+            no(10, 5),
+            no(5, 10),
+            no(-1, 5),
+            no(5, -1),
+        ],
+    );
+    let mirrored = Contour::new(start, &tile, far).expect(&rt, "it is closed");
+    agrees(
+        &rt,
+        &mirrored,
+        &[
+            yes(299_990, -300_000),
+            yes(299_999, -299_991),
+            no(300_000, -299_995),
+            no(299_995, -299_990),
+        ],
+    );
     assert!(rt; Contour::new(start, &[right, up, left], here).is_none());
-    Ok(())
 }
 
 #[test]
@@ -423,8 +413,13 @@ fn boxes(rt: HostRuntime) {
         end: Place { x: 0, y: 40 },
         half: Half { ticks: 5 },
     };
-    let along = stroke.bounds();
-    assert!(rt; along.left == -5 && along.right == 35 && along.bottom == -5 && along.top == 45);
+    let along = Bounds {
+        left: -5,
+        right: 35,
+        bottom: -5,
+        top: 45,
+    };
+    assert_eq!(rt; stroke.bounds(), along);
     let arc = ArcStroke {
         centre: Place { x: 100, y: 0 },
         start: Place { x: 150, y: 0 },
@@ -432,8 +427,13 @@ fn boxes(rt: HostRuntime) {
         half: Half { ticks: 10 },
         clockwise: false,
     };
-    let about = arc.bounds();
-    assert!(rt; about.left == 38 && about.right == 162 && about.bottom == -62 && about.top == 62);
+    let about = Bounds {
+        left: 38,
+        right: 162,
+        bottom: -62,
+        top: 62,
+    };
+    assert_eq!(rt; arc.bounds(), about);
 }
 
 #[test]

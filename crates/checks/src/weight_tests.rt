@@ -2,7 +2,7 @@
 use forms::Polarity;
 use plane::points::{FilePoint, Half};
 use records::kinds::{Aperture, Figure, Mirror, Object, Outline, Owner};
-use records::weights::weigh_aperture;
+use records::weights::{Weight, weigh_aperture};
 use std::test::Fail;
 
 fn object(block: usize, outline: Outline) -> Object {
@@ -57,21 +57,22 @@ fn doubling_blocks_are_weighed_at_once(rt: HostRuntime) -> Result<(), Fail> {
         (99, 9, 1_000_001),
     ];
     for (number, depth, laid) in cases {
-        match weigh_aperture(number, apertures.as_slice(), objects.as_slice()) {
-            Some(w) => assert!(rt;
-                w.depth == depth && w.laid == laid,
-                "weight of a doubling block"
-            ),
-            None => return Err(Fail::new("no weight")),
-        }
+        assert_eq!(rt;
+            weigh_aperture(number, apertures.as_slice(), objects.as_slice()),
+            Some(Weight { depth, laid }),
+            "weight of a doubling block"
+        );
     }
-    assert!(rt; weigh_aperture(100, apertures.as_slice(), objects.as_slice()).is_none());
+    assert_eq!(rt;
+        weigh_aperture(100, apertures.as_slice(), objects.as_slice()),
+        None
+    );
     Ok(())
 }
 
 // An empty block, a block of nothing but empty blocks, and a circle between them.
 #[test]
-fn empty_blocks_lay_nothing(rt: HostRuntime) -> Result<(), Fail> {
+fn empty_blocks_lay_nothing(rt: HostRuntime) {
     let apertures = [
         Aperture {
             code: 10,
@@ -91,13 +92,10 @@ fn empty_blocks_lay_nothing(rt: HostRuntime) -> Result<(), Fail> {
     let objects = [object(2, flash(0)), object(2, flash(0)), object(1, dot())];
     let cases = [(0, 1, 0), (1, 0, 0), (2, 2, 0)];
     for (number, depth, laid) in cases {
-        match weigh_aperture(number, &apertures, &objects) {
-            Some(w) => assert!(rt;
-                w.depth == depth && w.laid == laid,
-                "weight of an empty block"
-            ),
-            None => return Err(Fail::new("no weight")),
-        }
+        assert_eq!(rt;
+            weigh_aperture(number, &apertures, &objects),
+            Some(Weight { depth, laid }),
+            "weight of an empty block"
+        );
     }
-    Ok(())
 }

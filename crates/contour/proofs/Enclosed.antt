@@ -5,10 +5,9 @@ use borrow.Author.Differences.{ints, up, down, product_is}
 use Rattle.std.proofs.lemmas.Bool.{cases_Bool, both_ways}
 use Rattle.std.proofs.lemmas.Int.{by_lt_z}
 use Rattle.plane.specs.declared.points.Bounds.{Bounds}
-use Rattle.plane.specs.declared.points.FilePoint.{FilePoint}
 use Rattle.plane.specs.declared.points.Placing.{Placing}
 use Rattle.plane.specs.Plane.{At, spot}
-use Rattle.plane.specs.Points.{file_point_at}
+use Rattle.plane.specs.Points.{FilePoint, file_point_at}
 use Rattle.plane.specs.Placed.{placed}
 use Rattle.plane.proofs.Equal.{same_is_equal}
 use Rattle.shapes.specs.Box.{Inside, Encloses}

@@ -1,5 +1,6 @@
 -- odd counts, as a Bool that turns
-use Rattle.std.proofs.Common.{◌≡◌, ℕ, ◌+◌, ◌%◌, Bool, true, false, cond, eqb, List, [], ◌∷◌, refl, ap, ◌∙◌, zero-add, arith}
+use mathlib.Core.Bool.{beq}
+use Rattle.std.proofs.Common.{◌≡◌, ℕ, ◌+◌, ◌%◌, Bool, true, false, cond, not, eqb, List, [], ◌∷◌, refl, ap, ◌∙◌, zero-add, arith}
 use Rattle.std.proofs.lemmas.Bool.Decides.{nat_tests}
 use Rattle.plane.specs.Plane.{At}
 use Rattle.contour.specs.Chain.{counts, crossings, in_contour, differ}
@@ -26,3 +27,10 @@ differ_assoc false b c = refl
 pub differ_false : (a : Bool) → differ a false ≡ a
 differ_false true = refl
 differ_false false = refl
+
+-- the program's `^` of two flags
+pub differ_is : (a b : Bool) → not (beq a b) ≡ differ a b
+differ_is true true = refl
+differ_is true false = refl
+differ_is false true = refl
+differ_is false false = refl

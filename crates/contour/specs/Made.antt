@@ -1,8 +1,7 @@
 -- what making a contour answers
 use Rattle.std.specs.Prelude.{cond, List, Some, None, Option}
-use Rattle.plane.specs.declared.points.FilePoint.{FilePoint}
 use Rattle.plane.specs.declared.points.Placing.{Placing}
-use Rattle.plane.specs.Points.{file_point_at}
+use Rattle.plane.specs.Points.{FilePoint, file_point_at}
 use Rattle.contour.specs.declared.pieces.Piece.{Piece}
 use Rattle.contour.specs.declared.contour.Contour.{Contour}
 use Rattle.contour.specs.Closed.{closed_from}

@@ -1,10 +1,9 @@
 -- a contour on its placed points
 use Rattle.std.specs.Prelude.{Bool, List, map, ℤ}
 use Rattle.plane.specs.declared.points.Bounds.{Bounds}
-use Rattle.plane.specs.declared.points.FilePoint.{FilePoint}
 use Rattle.plane.specs.declared.points.Placing.{Placing}
 use Rattle.plane.specs.Plane.{At}
-use Rattle.plane.specs.Points.{file_point_at}
+use Rattle.plane.specs.Points.{FilePoint, file_point_at}
 use Rattle.plane.specs.Placed.{placed}
 use Rattle.contour.specs.declared.pieces.Piece.{Piece}
 use Rattle.contour.specs.Chain.{contour_at, single, box_from}

@@ -1,13 +1,15 @@
 -- One bit more of a byte, and one byte more of a row.
-use Rattle.std.proofs.Common.{◌≡◌, ℕ, zero, suc, ◌+◌, ◌*◌, ◌^◌, ◌<◌, ◌≤◌, Bool, true, cond, ◌&&◌, ltb, leb, List, [], ◌∷◌, ◌++◌, map, length, get_or, drop, set, Ok, Result, sym, ap, ◌∙◌, append_assoc, add-one, arith, pow_mono}
+use Rattle.std.proofs.Common.{◌≡◌, ℕ, zero, suc, ◌+◌, ◌^◌, ◌<◌, ◌≤◌, Bool, true, false, cond, ◌&&◌, ltb, leb, List, [], ◌∷◌, ◌++◌, map, length, get_or, drop, set, Ok, Err, Result, sym, refl, ap, ◌∙◌, append_assoc, arith, pow_mono}
 use native.Mathlib.Nat.{two-pow-succ}
 use Rattle.std.specs.List.{range_with_len}
 use Rattle.std.proofs.lemmas.List.FromFn.{map-range_with_len_more, length-map-range_with_len}
 use Rattle.std.proofs.lemmas.List.{drop_more, set_at}
+use Rattle.std.proofs.lemmas.Bool.{ltb-true, leb-true}
 use Rattle.std.proofs.lemmas.Bool.Decides.{nat_tests}
-use Rattle.film.specs.Film.{Meaning, read_of}
-use Rattle.film.specs.Faults.{Told}
-use Rattle.film.specs.Packed.{binary, inked, dark_in, byte_of, row_bytes, bytes_for, pack_answer, packed}
+use Rattle.film.specs.Frame.{Frame}
+use Rattle.film.specs.Film.{Meaning}
+use Rattle.film.specs.Faults.{Told, call}
+use Rattle.film.specs.Packed.{binary, inked, byte_of, row_bytes, bytes_for, packed_length, packed}
 
 binary_lt : (p : ℕ → Bool) (c n : ℕ) → binary p c n < 2 ^ n
 binary_lt p c zero = omega arith
@@ -16,17 +18,6 @@ binary_lt p c (suc n) = let h = binary_lt p c n in rw (two-pow-succ n) (grind (a
 -- fewer than eight bits leave room for one more
 pub room : (p : ℕ → Bool) (c n b : ℕ) → b ≡ binary p c n → n < 8 → b < 128
 room p c n b e h = let m : 2 ^ n ≤ 2 ^ 7 = pow_mono {j = 7} (omega arith) in let l = binary_lt p c n in omega arith
-
--- a pixel of a row on the film is read as the row has it
-pub read_inked : (m : Meaning) (row c : ℕ) (a : Result Bool Told) (dark : Bool) → dark ≡ dark_in a → a ≡ read_of m c row → row < m.frame.height
-    → dark ≡ inked m row c
-read_inked m row c a dark d e h =
-    let i : dark_in (read_of m c row) ≡ inked m row c = grind (arith, nat_tests) in
-    d ∙ ap dark_in e ∙ i
-
-pub bit_more : (p : ℕ → Bool) (c n b v : ℕ) (dark : Bool) → b ≡ binary p c n → dark ≡ p (c + n) → v ≡ 2 * b + cond dark 1 0
-    → v ≡ binary p c (n + 1)
-bit_more p c n b v dark e d h = rw (add-one n) (cc)
 
 pub byte_more : (f : ℕ → ℕ) (xs out : List ℕ) (k v : ℕ) → k < length out → xs ≡ map f (range_with_len 0 k) ++ drop k out → v ≡ f k
     → set xs k v ≡ map f (range_with_len 0 (k + 1)) ++ drop (k + 1) out
@@ -41,8 +32,21 @@ pub length_row_bytes : (m : Meaning) (row : ℕ) → length (row_bytes m row) �
 unfolding row_bytes
 length_row_bytes m row = length-map-range_with_len (byte_of (inked m row)) 0 (bytes_for m.frame.width)
 
-pub pack_answers : (m : Meaning) (row room : ℕ) → row < m.frame.height → bytes_for m.frame.width ≤ room → Ok tt ≡ pack_answer m row room
-pack_answers m row room h l = grind (arith, nat_tests)
+-- the row is on the film, and there is room for its n bytes
+pub record Packs (f : Frame) (row room n : ℕ) : Type 0 where
+  pub on : row < f.height
+  pub is : n ≡ bytes_for f.width
+  pub fits : bytes_for f.width ≤ room
+
+packs_by : (a b : Bool) (k n : ℕ) → ◌≡◌ {A = Result ℕ Told} (Ok n) (cond a (cond b (Ok k) (Err (call 5))) (Err (call 4))) → (a ≡ true) × (b ≡ true) × (n ≡ k)
+packs_by true true k n e = (refl, refl, cc)
+packs_by true false k n e = absurd (cc)
+packs_by false b k n e = absurd (cc)
+
+pub packs_row : (f : Frame) (row room n : ℕ) → ◌≡◌ {A = Result ℕ Told} (Ok n) (packed_length f row room) → Packs f row room n
+packs_row f row room n e =
+    let p = packs_by (ltb row f.height) (leb (bytes_for f.width) room) (bytes_for f.width) n e in
+    record { on = ltb-true _ _ p.0; is = p.2; fits = leb-true _ _ p.1 }
 
 -- the loop over the bytes ends with the row's
 pub pack_ends : (m : Meaning) (row : ℕ) (out xs : List ℕ) (k : ℕ) → row < m.frame.height → bytes_for m.frame.width ≤ length out

@@ -1,10 +1,15 @@
 -- Numbers and windows as the code holds them.
 use Rattle.std.specs.Prelude.{◌≡◌, ℕ, ◌+◌, ◌-◌, ◌*◌, ◌/◌, Bool, true, false, ◌&&◌, ℤ, pos, ◌+ℤ◌, Result, MatchResult, int_le, nat_le}
+use Rattle.film.specs.declared.grid.Grid.{Grid}
 use Rattle.film.specs.declared.numbers.Numbers.{Numbers}
 use Rattle.film.specs.declared.window.Window.{Window}
 use Rattle.film.specs.declared.fault.FilmFault.{FilmFault}
 use Rattle.film.specs.Frame.{Frame, framed, in_limits, lowest, highest}
 use Rattle.film.specs.Faults.{film_told, call}
+
+-- the numbers that are asked for
+abbrev pub grid_frame : Grid → Frame
+grid_frame g = framed g.width g.height g.pitch g.ox g.oy
 
 -- the numbers that the code holds
 abbrev pub frame_of : Numbers → Frame

@@ -1,6 +1,7 @@
 -- A row as bitmap bytes: the leftmost pixel in the highest bit, 1 dark, padding bits 0.
-use Rattle.std.specs.Prelude.{◌≡◌, ℕ, zero, suc, ◌+◌, ◌*◌, ◌/◌, ◌≤◌, Bool, false, cond, ◌&&◌, List, ◌++◌, map, length, drop, Ok, Err, Result, nat_le, nat_lt}
+use Rattle.std.specs.Prelude.{◌≡◌, ℕ, zero, suc, ◌+◌, ◌*◌, ◌/◌, ◌≤◌, Bool, cond, ◌&&◌, List, ◌++◌, map, length, drop, Ok, Err, Result, nat_le, nat_lt}
 use Rattle.std.specs.List.{range_with_len}
+use Rattle.film.specs.Frame.{Frame}
 use Rattle.film.specs.Film.{Meaning}
 use Rattle.film.specs.Faults.{Told, call}
 
@@ -16,11 +17,6 @@ pub record RowLength (w n : ℕ) : Type 0 where
 -- column c of the row is a dark pixel of the film
 abbrev pub inked : Meaning → ℕ → ℕ → Bool
 inked m row c = nat_lt c m.frame.width && m.pixel c row
-
--- a pixel that was read and is dark
-abbrev pub dark_in : Result Bool Told → Bool
-dark_in (Ok dark) = dark
-dark_in (Err _) = false
 
 -- the number that n bits make, from bit c on, the first one the highest
 abbrev pub binary : (ℕ → Bool) → ℕ → ℕ → ℕ
@@ -39,6 +35,11 @@ row_bytes m row = map (byte_of (inked m row)) (range_with_len 0 (bytes_for m.fra
 abbrev pub pack_answer : Meaning → ℕ → ℕ → Result (Unit {0}) Told
 pack_answer m row room =
     cond (nat_lt row m.frame.height) (cond (nat_le (bytes_for m.frame.width) room) (Ok tt) (Err (call 5))) (Err (call 4))
+
+-- the bytes of a row, unless it is refused so
+abbrev pub packed_length : Frame → ℕ → ℕ → Result ℕ Told
+packed_length f row room =
+    cond (nat_lt row f.height) (cond (nat_le (bytes_for f.width) room) (Ok (bytes_for f.width)) (Err (call 5))) (Err (call 4))
 
 -- what an output then holds: the row's bytes at its front, or all as it was
 abbrev pub packed : Meaning → ℕ → List ℕ → List ℕ

@@ -1,5 +1,5 @@
 // Why a call on a film is refused.
-#[derive(Clone, Copy)]
+#[derive(Clone, Copy, PartialEq, Eq, Debug)]
 pub enum FilmFault {
     // The numbers are outside their limits.
     Limits,

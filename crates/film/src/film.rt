@@ -1,12 +1,14 @@
 // What every film can do.
-ghost use Rattle.std.specs.Prelude.{◌≡◌, ◌+◌, ◌*◌, ◌<◌, length, if◌then◌else◌};
+ghost use Rattle.std.specs.Prelude.{◌≡◌, length};
 ghost use Rattle.film.specs.Faults.{answered};
 ghost use Rattle.film.specs.Film.{Meaning, Beside, read_of, SpanWritten};
 ghost use Rattle.film.specs.Made.{frame_of};
-ghost use Rattle.film.specs.Packed.{pack_answer, packed, dark_in, RowLength};
+ghost use Rattle.film.specs.Packed.{pack_answer, packed};
 
+use crate::bytes::with_bit;
 use crate::fault::FilmFault;
 use crate::numbers::Numbers;
+use crate::span::Span;
 
 pub trait Film {
     // The numbers, and for each pixel dark or clear.
@@ -22,9 +24,9 @@ pub trait Film {
     fn read(&self, col: u32, row: u32) -> Result<bool, FilmFault>
         ensures { answered result ≡ read_of (meaning self.now) col row };
 
-    // Makes the columns `first` to `end`, which is not one of them, of a row dark or clear.
-    fn write_span(&mut self, row: u32, first: u32, end: u32, dark: bool) -> Result<(), FilmFault>
-        ensures written { SpanWritten (meaning self.old) row first end dark (answered result) (meaning self.new) }
+    // Makes the pixels of a span dark or clear.
+    fn write_span(&mut self, span: Span, dark: bool) -> Result<(), FilmFault>
+        ensures written { SpanWritten (meaning self.old) span.row span.first span.end dark (answered result) (meaning self.new) }
         ensures beside { beside self.new ≡ beside self.old };
 
     // Puts a row's bitmap bytes at the front of `out`.
@@ -32,46 +34,16 @@ pub trait Film {
         ensures answer { answered result ≡ pack_answer (meaning self.now) row (length out.old) }
         ensures bytes { out.new ≡ packed (meaning self.now) row out.old }
     {
-        let n = self.numbers();
-        if row >= n.height {
-            return Err(FilmFault::Off);
-        }
-        let bytes = row_length(n);
-        if out.len() < bytes {
-            return Err(FilmFault::Short);
-        }
+        let bytes = self.numbers().packed_length(row, out.len())?;
+        // The index is also the byte's place, which tells its columns.
         for k in 0..bytes {
             let mut byte = 0;
             for j in 0..8 {
-                byte = with_bit(byte, is_dark(self.read(8 * k as u32 + j, row)));
+                let pixel = self.read(8 * k as u32 + j, row);
+                byte = with_bit(byte, pixel.unwrap_or(false));
             }
             out[k] = byte;
         }
         Ok(())
     }
-}
-
-// The bytes of a row.
-fn row_length(n: Numbers) -> usize
-    ensures { RowLength n.width result }
-{
-    (n.width as usize + 7) / 8
-}
-
-// Whether a pixel was read and is dark.
-fn is_dark(pixel: Result<bool, FilmFault>) -> bool
-    ensures { result ≡ dark_in (answered pixel) }
-{
-    match pixel {
-        Ok(dark) => dark,
-        Err(_) => false,
-    }
-}
-
-// The bits of a byte moved up by one, with one more below them.
-fn with_bit(byte: u8, dark: bool) -> u8
-    requires { byte < 128 }
-    ensures { result ≡ 2 * byte + (if dark then 1 else 0) }
-{
-    if dark { 2 * byte + 1 } else { 2 * byte }
 }

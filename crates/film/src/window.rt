@@ -1,5 +1,5 @@
 // Columns x to x + width - 1 and rows y to y + height - 1 of a film.
-#[derive(Clone, Copy)]
+#[derive(Clone, Copy, PartialEq, Eq, Debug)]
 pub struct Window {
     pub x: u32,
     pub y: u32,

@@ -1,11 +1,14 @@
 use bitmap::bitmap::Bitmap;
 use film::fault::FilmFault;
 use film::film::Film;
+use film::grid::Grid;
 use film::numbers::Numbers;
+use film::span::Span;
 use film::window::Window;
 use piles::cutout::CutOut;
 use piles::mirror::Mirror;
 use piles::negative::Negative;
+use runs::memory::RunMemory;
 use runs::run::Run;
 use runs::runfilm::RunFilm;
 use std::alloc::Global;
@@ -25,107 +28,102 @@ fn packed<F: Film>(film: &F, row: u32) -> u8 {
 fn read<F: Film>(film: &F, row: u32) -> u8 {
     let mut byte = 0u8;
     for col in 0..8 {
-        byte <<= 1;
-        if let Ok(true) = film.read(col, row) {
-            byte |= 1;
-        }
+        byte = byte << 1 | u8::from(film.read(col, row) == Ok(true));
     }
     byte
 }
 
 // Every row is packed and read as in the picture.
 fn shows<F: Film>(rt: &impl Abort, film: &F, picture: [u8; 4]) {
-    for row in 0..4 {
-        assert_eq!(rt; packed(film, row), picture[row as usize]);
-        assert_eq!(rt; read(film, row), picture[row as usize]);
+    for (row, byte) in (0..).zip(picture) {
+        assert_eq!(rt; packed(film, row), byte);
+        assert_eq!(rt; read(film, row), byte);
     }
 }
 
-fn is_off(r: Result<(), FilmFault>) -> bool {
-    matches!(r, Err(FilmFault::Off))
+// What a film of 8 by 4 pixels is made with.
+const GRID: Grid = Grid {
+    width: 8,
+    height: 4,
+    pitch: 20,
+    ox: 100,
+    oy: 100,
+};
+
+fn span(row: u32, first: u32, end: u32) -> Span {
+    Span { row, first, end }
 }
 
 // Spans are written, joined and cut; those off the film are refused.
 fn draws<F: Film>(rt: &impl Abort, film: &mut F) {
     shows(rt, film, [0, 0, 0, 0]);
     let spans = [
-        (0, 1, 3, true, [0b0110_0000, 0, 0, 0]),
-        (0, 5, 7, true, [0b0110_0110, 0, 0, 0]),
-        (0, 3, 5, true, [0b0111_1110, 0, 0, 0]),
-        (0, 2, 6, false, [0b0100_0010, 0, 0, 0]),
-        (3, 0, 8, true, [0b0100_0010, 0, 0, 0xFF]),
-        (3, 4, 4, false, [0b0100_0010, 0, 0, 0xFF]),
-        (3, 0, 1, false, [0b0100_0010, 0, 0, 0x7F]),
+        (span(0, 1, 3), true, [0b0110_0000, 0, 0, 0]),
+        (span(0, 5, 7), true, [0b0110_0110, 0, 0, 0]),
+        (span(0, 3, 5), true, [0b0111_1110, 0, 0, 0]),
+        (span(0, 2, 6), false, [0b0100_0010, 0, 0, 0]),
+        (span(3, 0, 8), true, [0b0100_0010, 0, 0, 0xFF]),
+        (span(3, 4, 4), false, [0b0100_0010, 0, 0, 0xFF]),
+        (span(3, 0, 1), false, [0b0100_0010, 0, 0, 0x7F]),
     ];
-    for (row, first, end, dark, picture) in spans {
-        assert!(rt; film.write_span(row, first, end, dark).is_ok());
+    for (span, dark, picture) in spans {
+        assert_eq!(rt; film.write_span(span, dark), Ok(()));
         shows(rt, film, picture);
     }
-    for (row, first, end) in [(4, 0, 1), (0, 2, 1), (0, 0, 9), (0, 9, 9)] {
-        assert!(rt; is_off(film.write_span(row, first, end, true)));
+    for off in [span(4, 0, 1), span(0, 2, 1), span(0, 0, 9), span(0, 9, 9)] {
+        assert_eq!(rt; film.write_span(off, true), Err(FilmFault::Off));
     }
     shows(rt, film, [0b0100_0010, 0, 0, 0x7F]);
 }
 
 fn bitmap(heap: Global) -> Result<Bitmap, Fail> {
-    match Bitmap::new(vec![in heap; 0xFFu8; 6]?, 8, 4, 20, 100, 100) {
-        Ok(film) => Ok(film),
-        Err(_) => Err(Fail::new("refused")),
-    }
+    Bitmap::new(vec![in heap; 0xFFu8; 6]?, GRID).map_err(|_| Fail::new("refused"))
 }
 
 fn run_film(heap: Global) -> Result<RunFilm, Fail> {
-    let slots = vec![in heap; Run { first: 0, end: 0 }; 16]?;
-    match RunFilm::new(vec![in heap; 7u32; 5]?, slots, 8, 4, 20, 100, 100) {
-        Ok(film) => Ok(film),
-        Err(_) => Err(Fail::new("refused")),
+    let memory = RunMemory {
+        counts: vec![in heap; 7u32; 5]?,
+        slots: vec![in heap; Run { first: 0, end: 0 }; 16]?,
+    };
+    RunFilm::new(memory, GRID).map_err(|_| Fail::new("refused"))
+}
+
+fn window(x: u32, y: u32, width: u32, height: u32) -> Window {
+    Window {
+        x,
+        y,
+        width,
+        height,
     }
 }
 
-fn cut<F: Film + Drop>(
-    below: F,
-    x: u32,
-    y: u32,
-    width: u32,
-    height: u32,
-) -> Result<CutOut<F>, Fail> {
-    match CutOut::new(
-        below,
-        Window {
-            x,
-            y,
-            width,
-            height,
-        },
-    ) {
-        Ok(film) => Ok(film),
-        Err(_) => Err(Fail::new("refused")),
-    }
+fn cut<F: Film + Drop>(below: F, window: Window) -> Result<CutOut<F>, Fail> {
+    CutOut::new(below, window).map_err(|_| Fail::new("refused"))
 }
 
 // A negative of a mirror of a window of a mirror, and the film below it.
 fn turned<F: Film + Drop>(rt: &impl Abort, film: F) -> Result<F, Fail> {
-    let below = cut(Mirror { below: film }, 1, 1, 6, 2)?;
+    let below = cut(Mirror { below: film }, window(1, 1, 6, 2))?;
     let mut pile = Negative {
         below: Mirror { below },
     };
     shows(rt, &pile, [0xFC, 0xFC, 0, 0]);
-    assert!(rt; pile.write_span(0, 0, 6, false).is_ok());
-    assert!(rt; pile.write_span(0, 1, 3, true).is_ok());
-    assert!(rt; pile.write_span(1, 5, 6, false).is_ok());
-    assert!(rt; is_off(pile.write_span(2, 0, 1, false)));
-    assert!(rt; is_off(pile.write_span(0, 0, 7, false)));
+    assert_eq!(rt; pile.write_span(span(0, 0, 6), false), Ok(()));
+    assert_eq!(rt; pile.write_span(span(0, 1, 3), true), Ok(()));
+    assert_eq!(rt; pile.write_span(span(1, 5, 6), false), Ok(()));
+    assert_eq!(rt; pile.write_span(span(2, 0, 1), false), Err(FilmFault::Off));
+    assert_eq!(rt; pile.write_span(span(0, 0, 7), false), Err(FilmFault::Off));
     shows(rt, &pile, [0b0110_0000, 0b1111_1000, 0, 0]);
     Ok(pile.into_below().into_below().into_below().into_below())
 }
 
 // A window of a negative of a window of a mirror, and the film below it.
 fn windows<F: Film + Drop>(rt: &impl Abort, film: F) -> Result<F, Fail> {
-    let below = cut(Mirror { below: film }, 2, 0, 5, 4)?;
-    let mut pile = cut(Negative { below }, 1, 2, 3, 2)?;
+    let below = cut(Mirror { below: film }, window(2, 0, 5, 4))?;
+    let mut pile = cut(Negative { below }, window(1, 2, 3, 2))?;
     let n = pile.numbers();
     assert_eq!(rt; (n.width, n.height, n.ox, n.oy), (3, 2, 160, 100));
-    assert!(rt; pile.write_span(1, 0, 2, false).is_ok());
+    assert_eq!(rt; pile.write_span(span(1, 0, 2), false), Ok(()));
     shows(rt, &pile, [0b1110_0000, 0b0010_0000, 0, 0]);
     Ok(pile.into_below().into_below().into_below().into_below())
 }
@@ -147,18 +145,19 @@ fn films_over_films(rt: HostRuntime) -> Result<(), Fail> {
         [0, 0b0100_1110, 0b0000_0010, 0b0001_1000, 0xFF, 0xFF].as_slice()
     );
     let film = piles(&rt, run_film(rt.alloc())?)?;
-    for (x, y, width, height) in [(0, 0, 0, 4), (0, 0, 8, 0), (1, 0, 8, 4), (0, 4, 8, 1)] {
-        assert!(rt;
-            !film.numbers().has(Window {
-                x,
-                y,
-                width,
-                height,
-            })
-        );
+    let off = [
+        window(0, 0, 0, 4),
+        window(0, 0, 8, 0),
+        window(1, 0, 8, 4),
+        window(0, 4, 8, 1),
+    ];
+    for window in off {
+        assert!(rt; !film.numbers().has(window));
     }
-    let (counts, _) = film.into_memory();
-    assert_eq!(rt; counts.as_slice(), [0, 2, 1, 1, 7].as_slice());
+    assert_eq!(rt;
+        film.into_memory().counts.as_slice(),
+        [0, 2, 1, 1, 7].as_slice()
+    );
     Ok(())
 }
 
@@ -177,7 +176,14 @@ fn limits(rt: HostRuntime) {
         (1, 1, 2, 0, 90000, false),
     ];
     for (width, height, pitch, ox, oy, good) in cases {
-        assert_eq!(rt; Numbers::new(width, height, pitch, ox, oy).is_ok(), good);
+        let grid = Grid {
+            width,
+            height,
+            pitch,
+            ox,
+            oy,
+        };
+        assert_eq!(rt; Numbers::new(grid).is_ok(), good);
     }
 }
 
@@ -191,7 +197,9 @@ fn bare_films(rt: HostRuntime) -> Result<(), Fail> {
     );
     let mut film = run_film(rt.alloc())?;
     draws(&rt, &mut film);
-    let (counts, _) = film.into_memory();
-    assert_eq!(rt; counts.as_slice(), [2, 0, 0, 1, 7].as_slice());
+    assert_eq!(rt;
+        film.into_memory().counts.as_slice(),
+        [2, 0, 0, 1, 7].as_slice()
+    );
     Ok(())
 }

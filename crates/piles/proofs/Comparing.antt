@@ -8,15 +8,6 @@ use Rattle.film.specs.declared.window.Window.{Window}
 use Rattle.piles.specs.Piles.{cut, cut_frame}
 use Rattle.piles.specs.Laws.{MirrorTwice, NegativeTwice, Exchange, CutTwice, SameCentres, joined}
 
-pub mirror_twice : MirrorTwice
-mirror_twice m = record { frame = refl; pixels = λ c r h k. let e : m.frame.width - 1 - (m.frame.width - 1 - c) ≡ c = omega arith in ap (λ x. m.pixel x r) e }
-
-pub negative_twice : NegativeTwice
-negative_twice m = record { frame = refl; pixels = λ c r h k. grind (arith, nat_tests) }
-
-pub exchange : Exchange
-exchange m = refl
-
 -- what a window on a film keeps to
 pub record On (f : Frame) (v : Window) : Type 0 where
   pub wide : 1 ≤ v.width

@@ -65,12 +65,6 @@ pub record Below (m : Meaning) (u v : Window) (row first end : ℕ) (dark : Bool
   pub across : end ≤ v.width
   pub span : SpanWritten m (v.y + row) (v.x + first) (v.x + end) dark a n
 
-pub below : (m n : Meaning) (u v : Window) (row first end : ℕ) (dark : Bool) (a : Result (Unit {0}) Told) → Fitted m.frame u v
-    → span_on (cut_frame v m.frame) row first end ≡ true → SpanWritten m (v.y + row) (v.x + first) (v.x + end) dark a n
-    → Below m u v row first end dark a n
-below m n u v row first end dark a t e s =
-    record { fit = t; down = grind (arith, nat_tests); order = grind (arith, nat_tests); across = grind (arith, nat_tests); span = s }
-
 cut_pixel : (W H x y w h row first end c r : ℕ) (dark b : Bool) → x + w ≤ W → y + h ≤ H → row < h → first ≤ end → end ≤ w
     → cond (ltb (y + row) H && leb (x + first) (x + end) && leb (x + end) W && (eqb (y + r) (y + row) && leb (x + first) (x + c) && ltb (x + c) (x + end))) dark b
     ≡ cond (ltb row h && leb first end && leb end w && (eqb r row && leb first c && ltb c end)) dark b
@@ -118,13 +112,3 @@ outside_kept m n u v row first end dark a s = fun_ext (λ c. fun_ext (λ r.
 
 pub beside_kept : (u : Window) (m n : Meaning) (b d : Beside) → outside u n ≡ outside u m → d ≡ b → beside_cut u n d ≡ beside_cut u m b
 beside_kept u m n b d e k = ap (λ p. record { memory = d.memory; pixels = p ∷ d.pixels }) e ∙ ap (beside_cut u m) k
-
-pub cut_refused : (m : Meaning) (u v : Window) (row first end : ℕ) (dark : Bool) → Fitted m.frame u v
-    → (ltb row v.height && leb first end && leb end v.width) ≡ false → SpanWritten (cut_out u m) row first end dark (Err (call 4)) (cut_out u m)
-cut_refused m u v row first end dark t e =
-    let k : span_on (cut_out u m).frame row first end ≡ false = subst (λ i. (ltb row i.height && leb first end && leb end i.width) ≡ false) t.is e in
-    record {
-      answer = ap (λ b. cond b (Ok tt) (Err (call 4))) (sym k);
-      frame = refl;
-      pixels = λ c r x y. ap (λ b. cond (b && in_span row first end c r) dark ((cut_out u m).pixel c r)) (sym k);
-    }

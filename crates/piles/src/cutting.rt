@@ -1,15 +1,15 @@
 // Cutting a window out of a film, and the film that it is.
 ghost use Rattle.std.specs.Prelude.{◌≡◌, ◌-◌, ◌*◌, ◌≤◌, true, pos, negsuc, ◌+ℤ◌, ◌≤ℤ◌};
-ghost use Rattle.film.specs.Faults.{answered};
-ghost use Rattle.film.specs.Film.{SpanWritten, span_on};
 ghost use Rattle.film.specs.Made.{frame_of, window_on};
 ghost use Rattle.piles.specs.Piles.{cut_frame, cut_out, beside_cut};
 ghost use Rattle.piles.specs.Cutting.{Fitted, CutMade};
 
-use crate::cutout::{CutOut, Refused};
+use crate::cutout::CutOut;
 use film::fault::FilmFault;
 use film::film::Film;
 use film::numbers::Numbers;
+use film::refused::Refused;
+use film::span::Span;
 use film::window::Window;
 
 // The window, or the whole film where it does not lie on it.
@@ -68,7 +68,7 @@ impl<F: Film> CutOut<F> {
             Ok(CutOut { below, window })
         } else {
             Err(Refused {
-                below,
+                given: below,
                 fault: FilmFault::Window,
             })
         }
@@ -77,31 +77,13 @@ impl<F: Film> CutOut<F> {
     pub fn into_below(self) -> F
         ensures { result ≡ self.below }
     {
-        let CutOut { below, window } = self;
-        below
+        self.below
     }
 
     fn fitted_window(&self) -> Window
         ensures { Fitted (F.meaning self.now.below).frame self.now.window result }
     {
         fitting(self.below.numbers(), self.window)
-    }
-
-    // Writes below the span that the window `v` shows here.
-    fn write_shown(
-        &mut self,
-        v: Window,
-        row: u32,
-        first: u32,
-        end: u32,
-        dark: bool,
-    ) -> Result<(), FilmFault>
-        requires { (Fitted (F.meaning self.old.below).frame self.old.window v) × (span_on (cut_frame v (F.meaning self.old.below).frame) row first end ≡ true) }
-        ensures written { SpanWritten (cut_out self.old.window (F.meaning self.old.below)) row first end dark (answered result) (cut_out self.new.window (F.meaning self.new.below)) }
-        ensures beside { beside_cut self.new.window (F.meaning self.new.below) (F.beside self.new.below) ≡ beside_cut self.old.window (F.meaning self.old.below) (F.beside self.old.below) }
-    {
-        self.below
-            .write_span(v.y + row, v.x + first, v.x + end, dark)
     }
 }
 
@@ -123,11 +105,16 @@ impl<F: Film> Film for CutOut<F> {
         self.below.read(v.x + col, v.y + row)
     }
 
-    fn write_span(&mut self, row: u32, first: u32, end: u32, dark: bool) -> Result<(), FilmFault> {
+    fn write_span(&mut self, span: Span, dark: bool) -> Result<(), FilmFault> {
         let v = self.fitted_window();
-        if row >= v.height || first > end || end > v.width {
+        if span.row >= v.height || span.first > span.end || span.end > v.width {
             return Err(FilmFault::Off);
         }
-        self.write_shown(v, row, first, end, dark)
+        let below = Span {
+            row: v.y + span.row,
+            first: v.x + span.first,
+            end: v.x + span.end,
+        };
+        self.below.write_span(below, dark)
     }
 }

@@ -4,6 +4,7 @@
 // Each holds the film below by value, works over any film, and gives it back by `into_below`;
 // so they pile in any order and to any height, and are taken apart again.
 // What is written on a pile is written below, where the pile shows it, and nothing else is.
+// `into_below` is one line in each film over a film, so that a trait for it would say no more.
 // `laws` says how piles compare: a mirror's mirror is the film, and so on.
 #![tactic(auto)]
 

@@ -5,6 +5,7 @@ ghost use Rattle.piles.specs.Piles.{mirrored};
 use film::fault::FilmFault;
 use film::film::Film;
 use film::numbers::Numbers;
+use film::span::Span;
 
 #[derive(Drop)]
 pub struct Mirror<F> {
@@ -15,8 +16,7 @@ impl<F> Mirror<F> {
     pub fn into_below(self) -> F
         ensures { result ≡ self.below }
     {
-        let Mirror { below } = self;
-        below
+        self.below
     }
 }
 
@@ -37,11 +37,16 @@ impl<F: Film> Film for Mirror<F> {
         self.below.read(width - 1 - col, row)
     }
 
-    fn write_span(&mut self, row: u32, first: u32, end: u32, dark: bool) -> Result<(), FilmFault> {
+    fn write_span(&mut self, span: Span, dark: bool) -> Result<(), FilmFault> {
         let width = self.below.numbers().width;
-        if first > end || end > width {
+        if span.first > span.end || span.end > width {
             return Err(FilmFault::Off);
         }
-        self.below.write_span(row, width - end, width - first, dark)
+        let mirrored = Span {
+            row: span.row,
+            first: width - span.end,
+            end: width - span.first,
+        };
+        self.below.write_span(mirrored, dark)
     }
 }

@@ -1,5 +1,5 @@
 -- the tests that tell whether two numbers or two points are equal
-use Rattle.std.proofs.Common.{◌≡◌, ℕ, true, ℤ, pos, negsuc, refl, ap, ◌∙◌, arith}
+use Rattle.std.proofs.Common.{◌≡◌, ℕ, true, ◌&&◌, ℤ, pos, negsuc, int_eq, refl, ap, ◌∙◌, rules, arith}
 use Rattle.std.proofs.lemmas.Bool.{and_parts, and_from, eqb-true, eq-eqb}
 use Rattle.plane.specs.Plane.{At, spot, eq_z, same}
 use Rattle.plane.specs.Laws.{SameIsEqual}
@@ -27,3 +27,13 @@ same_is_equal =
           ap (λ (z : ℤ). spot z a.y) x ∙ ap (spot b.x) y;
       always = same_refl;
     }
+
+-- the program's tests
+pub int_eq_is : (a b : ℤ) → int_eq a b ≡ eq_z a b
+int_eq_is (pos a) (pos b) = search rules
+int_eq_is (pos a) (negsuc b) = refl
+int_eq_is (negsuc a) (pos b) = refl
+int_eq_is (negsuc a) (negsuc b) = grind (arith, rules)
+
+pub eq_is_same : (a b : At) → (int_eq a.x b.x && int_eq a.y b.y) ≡ same a b
+eq_is_same a b = simp int_eq_is

@@ -1,46 +1,34 @@
-ghost use Rattle.std.specs.Prelude.{◌+◌, ◌*◌, ◌≤◌, unsigned_abs};
+ghost use Rattle.std.specs.Prelude.{◌+◌, ◌*◌, ◌≤◌, min, unsigned_abs};
 
-/// A whole point within ±1,000,000: any point that a shape is asked about.
-#[derive(Clone, Copy)]
-pub struct Point {
+/// A whole point within ±`LIMIT`, and within ±1,000,000 as all points.
+#[derive(Clone, Copy, PartialEq, Eq, Debug)]
+pub struct Spot<const LIMIT: u32> {
     pub x: i32,
     pub y: i32,
-    ghost within: { (unsigned_abs x ≤ 1000000) × (unsigned_abs y ≤ 1000000) },
+    ghost within: { (unsigned_abs x ≤ min LIMIT 1000000) × (unsigned_abs y ≤ min LIMIT 1000000) },
 }
 
-/// A point within ±345,000: where placing can bring a point of a file.
-#[derive(Clone, Copy)]
-pub struct Place {
-    pub x: i32,
-    pub y: i32,
-    ghost within: { (unsigned_abs x ≤ 345000) × (unsigned_abs y ≤ 345000) },
-}
+/// Any point that a shape is asked about.
+pub type Point = Spot<1_000_000>;
 
-/// A point as a file has it, within ±30,000.
-#[derive(Clone, Copy)]
-pub struct FilePoint {
-    pub x: i32,
-    pub y: i32,
-    ghost within: { (unsigned_abs x ≤ 30000) × (unsigned_abs y ≤ 30000) },
-}
+/// Where placing can bring a point of a file.
+pub type Place = Spot<345_000>;
 
-/// The centre of an arc as a file has it, within ±45,000.
-#[derive(Clone, Copy)]
-pub struct FileCentre {
-    pub x: i32,
-    pub y: i32,
-    ghost within: { (unsigned_abs x ≤ 45000) × (unsigned_abs y ≤ 45000) },
-}
+/// A point as a file has it.
+pub type FilePoint = Spot<30_000>;
+
+/// The centre of an arc as a file has it.
+pub type FileCentre = Spot<45_000>;
 
 /// Half of a size, 0 to 5,000 ticks.
-#[derive(Clone, Copy)]
+#[derive(Clone, Copy, PartialEq, Eq, Debug)]
 pub struct Half {
     pub ticks: u32,
     ghost within: { ticks ≤ 5000 },
 }
 
 /// The points from `left` to `right` and from `bottom` to `top`, ends included.
-#[derive(Clone, Copy)]
+#[derive(Clone, Copy, PartialEq, Eq, Debug)]
 pub struct Bounds {
     pub left: i32,
     pub right: i32,
@@ -49,7 +37,7 @@ pub struct Bounds {
 }
 
 /// The way from one point to another, within ±2,000,000.
-#[derive(Clone, Copy)]
+#[derive(Clone, Copy, PartialEq, Eq, Debug)]
 pub struct Vector {
     pub x: i64,
     pub y: i64,
@@ -57,7 +45,7 @@ pub struct Vector {
 }
 
 /// Where a block lays the points of a file: mirrored, then moved. `level` counts the blocks around.
-#[derive(Clone, Copy)]
+#[derive(Clone, Copy, PartialEq, Eq, Debug)]
 pub struct Placing {
     pub mirror_x: bool,
     pub mirror_y: bool,

@@ -1,15 +1,11 @@
-use Rattle.std.proofs.Common.{◌≡◌, ℕ, zero, suc, ◌+◌, ◌<◌, min, List, [], ◌∷◌, ◌++◌, map, length, get_or, take, drop, set, sym, refl, ap, ◌∙◌, subst, add-one, arith}
+use Rattle.std.proofs.Common.{◌≡◌, ℕ, suc, ◌+◌, ◌<◌, min, List, [], ◌∷◌, ◌++◌, map, length, get_or, take, drop, set, sym, refl, ap, ◌∙◌, subst, add-one, arith}
 use Rattle.records.specs.Records as seen
 use Rattle.records.specs.Records.{ApertureSeen, FigureSeen, ObjectSeen, OutlineSeen, seen_aperture, seen_figure}
 use Rattle.records.specs.Weights.{capped, deepest, depth_by, figure_at, laid_by, laid_in, none, owned_from, weighed, weights}
 use Rattle.records.specs.declared.kinds.Aperture.{Aperture}
 use Rattle.records.specs.declared.weights.Weight.{Weight}
+use Rattle.std.proofs.Math.ListN as lists
 use Rattle.std.proofs.lemmas.List.{drop-drop, drop-set-lt, get_or-map, map_push, take_more_set}
-
-pub get_or_capped : (ws : List Weight) (j : ℕ) → get_or (map capped ws) j none ≡ capped (get_or ws j none)
-get_or_capped [] j = refl
-get_or_capped (w ∷ ws) zero = refl
-get_or_capped (w ∷ ws) (suc j) = get_or_capped ws j
 
 -- what one object brings, by capped weights
 depth_capped : (ws : List Weight) (o : OutlineSeen) → min 9 (depth_by (map capped ws) o) ≡ min 9 (depth_by ws o)
@@ -19,7 +15,7 @@ depth_capped ws (seen.obround p a b) = refl
 depth_capped ws (seen.stroke s e h) = refl
 depth_capped ws (seen.arc s e c clockwise h) = refl
 depth_capped ws (seen.contour s first count) = refl
-depth_capped ws (seen.block n p m) = let e = ap (λ (w : Weight). w.depth) (get_or_capped ws n) in omega arith
+depth_capped ws (seen.block n p m) = let e = ap (λ (w : Weight). w.depth) (lists.get_or-map capped ws n none) in omega arith
 
 laid_capped : (ws : List Weight) (o : OutlineSeen) → min 1000001 (laid_by (map capped ws) o) ≡ min 1000001 (laid_by ws o)
 laid_capped ws (seen.circle p h) = refl
@@ -28,7 +24,7 @@ laid_capped ws (seen.obround p a b) = refl
 laid_capped ws (seen.stroke s e h) = refl
 laid_capped ws (seen.arc s e c clockwise h) = refl
 laid_capped ws (seen.contour s first count) = refl
-laid_capped ws (seen.block n p m) = let e = ap (λ (w : Weight). w.laid) (get_or_capped ws n) in omega arith
+laid_capped ws (seen.block n p m) = let e = ap (λ (w : Weight). w.laid) (lists.get_or-map capped ws n none) in omega arith
 
 -- what all objects bring
 deepest_capped : (ws : List Weight) (os : List ObjectSeen) → min 9 (1 + deepest (map capped ws) os) ≡ min 9 (1 + deepest ws os)

@@ -3,7 +3,7 @@ use forms::Polarity;
 use plane::points::{FileCentre, FilePoint, Half};
 
 /// What a flash of an aperture shows.
-#[derive(Clone, Copy)]
+#[derive(Clone, Copy, PartialEq, Eq, Debug)]
 pub enum Figure {
     Circle { half: Half },
     Rectangle { a: Half, b: Half },
@@ -13,14 +13,14 @@ pub enum Figure {
 }
 
 /// An aperture and its code.
-#[derive(Clone, Copy)]
+#[derive(Clone, Copy, PartialEq, Eq, Debug)]
 pub struct Aperture {
     pub code: u32,
     pub figure: Figure,
 }
 
 /// The axes along which a block is mirrored: `x` negates x, `y` negates y.
-#[derive(Clone, Copy)]
+#[derive(Clone, Copy, PartialEq, Eq, Debug)]
 pub struct Mirror {
     pub x: bool,
     pub y: bool,
@@ -28,7 +28,7 @@ pub struct Mirror {
 
 /// A step and repeat: the number of its first object record, how often it repeats along x and y,
 /// and by how many ticks.
-#[derive(Clone, Copy)]
+#[derive(Clone, Copy, PartialEq, Eq, Debug)]
 pub struct Repeat {
     pub first: usize,
     pub columns: u32,
@@ -38,7 +38,7 @@ pub struct Repeat {
 }
 
 /// Where an object stands.
-#[derive(Clone, Copy)]
+#[derive(Clone, Copy, PartialEq, Eq, Debug)]
 pub enum Owner {
     Layer,
     /// the number of the block's aperture record
@@ -47,7 +47,7 @@ pub enum Owner {
 }
 
 /// What an object covers, as the file has it.
-#[derive(Clone, Copy)]
+#[derive(Clone, Copy, PartialEq, Eq, Debug)]
 pub enum Outline {
     Circle {
         at: FilePoint,
@@ -90,7 +90,7 @@ pub enum Outline {
 }
 
 /// One object of a drawing.
-#[derive(Clone, Copy)]
+#[derive(Clone, Copy, PartialEq, Eq, Debug)]
 pub struct Object {
     pub polarity: Polarity,
     pub owner: Owner,

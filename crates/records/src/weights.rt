@@ -1,12 +1,11 @@
-ghost use Rattle.std.specs.Prelude.{◌≡◌, ℕ, ◌+◌, ◌<◌, ◌≤◌, min, map, length, take, drop, slice_index_or};
+ghost use Rattle.std.specs.Prelude.{◌≡◌, ℕ, ◌+◌, ◌≤◌, min, map, length, slice_index_or};
 ghost use Rattle.records.specs.Records.{seen_aperture, seen_figure, seen_object, seen_outline};
-ghost use Rattle.records.specs.Weights.{capped, deepest, depth_by, laid_by, laid_in, none, or_nothing, owned_by, owned_from, weighed, weight_at, weight_told, weights};
-ghost use Rattle.std.specs.List.{prefix_len};
+ghost use Rattle.records.specs.Weights.{capped, deepest, depth_by, laid_by, laid_in, none, or_nothing, owned_from, weighed, weight_told, weights};
 
 use crate::kinds::{Aperture, Figure, Object, Outline, Owner};
 
 /// How deep blocks are nested in a block, itself counted, and how many objects a flash of it lays.
-#[derive(Clone, Copy)]
+#[derive(Clone, Copy, PartialEq, Eq, Debug, Default)]
 pub struct Weight {
     pub depth: u32,
     pub laid: u32,
@@ -17,65 +16,29 @@ const TOO_DEEP: u32 = 9;
 
 const TOO_MANY: u32 = 1_000_001;
 
-fn owned_by(object: Object, number: usize) -> bool
-    ensures { result ≡ owned_by number (seen_object object) }
-{
-    match object.owner {
-        Owner::Layer => false,
-        Owner::Block(block) => block == number,
-        Owner::Repeat(_) => false,
-    }
-}
-
-// Behind the objects of a block that begin at `first`.
-fn part_end(objects: &[Object], number: usize, first: usize) -> usize
-    requires { first ≤ length objects.now }
-    ensures value { result ≡ first + prefix_len (λ o. owned_by number (seen_object o)) (drop first objects.now) }
-    ensures bound { result ≤ length objects.now }
-{
-    let mut end = first;
-    while end < objects.len() && owned_by(objects[end], number) {
-        end += 1;
-    }
-    end
-}
+// How many apertures a drawing has at most. An array of so many weights is fixed memory: no heap is asked for.
+const MOST: usize = 128;
 
 // The objects of a block that begin at `first`.
 fn part(objects: &[Object], number: usize, first: usize) -> &[Object]
     ensures { map seen_object result.now ≡ owned_from number first (map seen_object objects.now) }
 {
-    if first > objects.len() {
-        return &[];
-    }
-    let end = part_end(objects, number, first);
-    &objects[first..end]
+    let rest = &objects[first.min(objects.len())..];
+    let count = rest
+        .iter()
+        .take_while(|object| object.owner == Owner::Block(number))
+        .count();
+    &rest[..count]
 }
 
-fn depth_by(outline: Outline, done: &[Weight]) -> u32
-    ensures { result ≡ depth_by done.now (seen_outline outline) }
+// What an object weighs: a flash of a block as the block, any other is laid once.
+fn weight_by(outline: Outline, done: &[Weight]) -> Weight
+    ensures depth { result.depth ≡ depth_by done.now (seen_outline outline) }
+    ensures laid { result.laid ≡ laid_by done.now (seen_outline outline) }
 {
     match outline {
-        Outline::Circle { .. } => 0,
-        Outline::Rectangle { .. } => 0,
-        Outline::Obround { .. } => 0,
-        Outline::Stroke { .. } => 0,
-        Outline::Arc { .. } => 0,
-        Outline::Contour { .. } => 0,
-        Outline::Block { number, .. } => weight_in(done, number).depth,
-    }
-}
-
-fn laid_by(outline: Outline, done: &[Weight]) -> u32
-    ensures { result ≡ laid_by done.now (seen_outline outline) }
-{
-    match outline {
-        Outline::Circle { .. } => 1,
-        Outline::Rectangle { .. } => 1,
-        Outline::Obround { .. } => 1,
-        Outline::Stroke { .. } => 1,
-        Outline::Arc { .. } => 1,
-        Outline::Contour { .. } => 1,
-        Outline::Block { number, .. } => weight_in(done, number).laid,
+        Outline::Block { number, .. } => weight_in(done, number),
+        _ => Weight { depth: 0, laid: 1 },
     }
 }
 
@@ -83,11 +46,7 @@ fn laid_by(outline: Outline, done: &[Weight]) -> u32
 fn weight_in(done: &[Weight], number: usize) -> Weight
     ensures { result ≡ slice_index_or done.now number none }
 {
-    if number < done.len() {
-        done[number]
-    } else {
-        Weight { depth: 0, laid: 0 }
-    }
+    done.get(number).copied().unwrap_or_default()
 }
 
 // Depth and laid count of a block with these objects, from the weights of the earlier apertures.
@@ -98,10 +57,9 @@ fn weight_of(part: &[Object], done: &[Weight]) -> Weight
     let mut depth: u32 = 0;
     let mut laid: u32 = 0;
     for object in part {
-        depth = depth.max(depth_by(object.outline, done));
-        laid = laid
-            .saturating_add(laid_by(object.outline, done))
-            .min(TOO_MANY);
+        let weight = weight_by(object.outline, done);
+        depth = depth.max(weight.depth);
+        laid = laid.saturating_add(weight.laid).min(TOO_MANY);
     }
     Weight {
         depth: depth.saturating_add(1).min(TOO_DEEP),
@@ -115,38 +73,22 @@ fn weigh_one(aperture: Aperture, number: usize, objects: &[Object], done: &[Weig
     ensures laid { result.laid ≡ min 1000001 (weighed done.now (map seen_object objects.now) number (seen_figure aperture.figure)).laid }
 {
     match aperture.figure {
-        Figure::Circle { .. } => Weight { depth: 0, laid: 0 },
-        Figure::Rectangle { .. } => Weight { depth: 0, laid: 0 },
-        Figure::Obround { .. } => Weight { depth: 0, laid: 0 },
         Figure::Block { first } => weight_of(part(objects, number, first), done),
+        _ => Weight::default(),
     }
 }
 
-// Writes the weights of the first `k` apertures: those of the earlier ones first, then that of the last.
-fn weigh(k: usize, apertures: &[Aperture], objects: &[Object], out: &mut [Weight])
-    requires { (k ≤ length apertures.now) × (k ≤ length out.old) }
-    ensures done { take k out.new ≡ map capped (weights (map seen_aperture apertures.now) (map seen_object objects.now) k) }
-    ensures rest { drop k out.new ≡ drop k out.old }
+// The weights of the first `k` apertures, each from the earlier ones, and nothing behind them.
+// Here and below two slices, and no struct of both, which each call would only make and take apart.
+fn weigh_first(k: usize, apertures: &[Aperture], objects: &[Object]) -> [Weight; MOST]
+    requires { (k ≤ length apertures.now) × (k ≤ 128) }
+    ensures { (j : ℕ) → slice_index_or result j none ≡ slice_index_or (map capped (weights (map seen_aperture apertures.now) (map seen_object objects.now) k)) j none }
 {
-    if k == 0 {
-        return;
+    let mut out = [Weight::default(); MOST];
+    for (number, aperture) in apertures[..k].iter().enumerate() {
+        out[number] = weigh_one(*aperture, number, objects, &out[..number]);
     }
-    let last = k - 1;
-    weigh(last, apertures, objects, out);
-    let weight = weigh_one(apertures[last], last, objects, &out[0..last]);
-    out[last] = weight;
-}
-
-// How many apertures a drawing has at most.
-const MOST: usize = 128;
-
-fn weight_at(number: usize, apertures: &[Aperture], objects: &[Object]) -> Weight
-    requires { (number < length apertures.now) × (number < 128) }
-    ensures { result ≡ capped (weight_at (map seen_aperture apertures.now) (map seen_object objects.now) number) }
-{
-    let mut out = [Weight { depth: 0, laid: 0 }; MOST];
-    weigh(number + 1, apertures, objects, &mut out);
-    out[number]
+    out
 }
 
 /// The weight of an aperture, depth at most 9 and laid count at most 1,000,001; none where there is
@@ -157,29 +99,12 @@ pub fn weigh_aperture(number: usize, apertures: &[Aperture], objects: &[Object])
     if number >= apertures.len() || number >= MOST {
         return None;
     }
-    Some(weight_at(number, apertures, objects))
-}
-
-// Writes the weights of the first `k` apertures over a list of nothing.
-fn weigh_first(k: usize, apertures: &[Aperture], objects: &[Object]) -> [Weight; MOST]
-    requires { (k ≤ length apertures.now) × (k ≤ 128) }
-    ensures { (j : ℕ) → slice_index_or result j none ≡ slice_index_or (map capped (weights (map seen_aperture apertures.now) (map seen_object objects.now) k)) j none }
-{
-    let mut out = [Weight { depth: 0, laid: 0 }; MOST];
-    weigh(k, apertures, objects, &mut out);
-    out
-}
-
-// How many apertures are weighed.
-fn weighed_count(apertures: &[Aperture]) -> usize
-    ensures { result ≡ min (length apertures.now) 128 }
-{
-    apertures.len().min(MOST)
+    Some(weigh_first(number + 1, apertures, objects)[number])
 }
 
 /// The weights of all apertures, each as `weigh_aperture` tells it, and nothing where it tells none.
 pub fn weigh_all(apertures: &[Aperture], objects: &[Object]) -> [Weight; MOST]
     ensures { (k : ℕ) → slice_index_or result k none ≡ or_nothing (weight_told (length apertures.now) (map seen_aperture apertures.now) (map seen_object objects.now) k) }
 {
-    weigh_first(weighed_count(apertures), apertures, objects)
+    weigh_first(apertures.len().min(MOST), apertures, objects)
 }

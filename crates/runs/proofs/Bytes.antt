@@ -1,40 +1,16 @@
 -- A row's runs as bytes.
-use Rattle.std.proofs.Common.{◌≡◌, ℕ, suc, ◌+◌, ◌-◌, ◌/◌, ◌%◌, ◌^◌, ◌<◌, ◌≤◌, Bool, true, false, cond, ◌&&◌, ◌||◌, eqb, ltb, leb, List, [], ◌∷◌, ◌++◌, length, get_or, drop, sym, refl, ap, ◌∙◌, ⊎_elim, arith}
-use native.Mathlib.Nat.{zero-div}
-use Rattle.std.proofs.lemmas.List.{at_drop_more, at_drop_all}
+use Rattle.std.proofs.Common.{◌≡◌, ℕ, suc, ◌/◌, ◌<◌, ◌≤◌, true, false, ◌&&◌, ltb, leb, List, [], ◌∷◌, ◌++◌, length, get_or, drop, sym, refl, ap, ◌∙◌, ⊎_elim, arith}
 use Rattle.std.proofs.lemmas.Bool.{cases_lt, lt-ltb, le-ltb, and_parts}
 use Rattle.std.proofs.lemmas.Bool.Decides.{nat_tests}
-use Rattle.bits.specs.Bits.{bit_in, bit_of, among}
+use Rattle.bits.specs.Bits.{bit_of}
 use Rattle.bits.proofs.Rows.{bytes_are}
 use Rattle.film.specs.Packed.{bytes_for, inked, packed}
 use Rattle.film.proofs.Packing.{pack_ends}
 use Rattle.film.specs.declared.numbers.Numbers.{Numbers}
 use Rattle.runs.specs.declared.run.Run.{Run}
-use Rattle.runs.specs.Rows.{run, in_run, in_row, row_ok}
+use Rattle.runs.specs.Rows.{in_row, row_ok}
 use Rattle.runs.specs.Slots.{row_slots, runs_of, row_sound, run_meaning}
 use Rattle.runs.proofs.Meaning.{parts}
-
--- a byte of 0 has no dark bit
-pub blank_bit : (xs : List ℕ) (n : ℕ) → get_or xs (n / 8) 0 ≡ 0 → bit_of xs n ≡ false
-blank_bit xs n e = ap (λ b. bit_in b (n % 8)) e ∙ ap (λ q. eqb (q % 2) 1) (zero-div (2 ^ (7 - n % 8)))
-
-either : (r b s : Bool) → (cond r true b || s) ≡ (b || (r || s))
-either r b s = grind (arith, nat_tests)
-
--- one run more
-pub run_packed : (xs : List Run) (i n : ℕ) (b d t : Bool) → i < length xs → (b || in_row (drop i xs) n) ≡ t
-    → d ≡ cond (among (get_or xs i (run 0 0)).first (get_or xs i (run 0 0)).end n) true b → (d || in_row (drop (i + 1) xs) n) ≡ t
-run_packed xs i n b d t l h e =
-    ap (λ z. z || in_row (drop (i + 1) xs) n) e
-    ∙ either (in_run (get_or xs i (run 0 0)) n) b (in_row (drop (i + 1) xs) n)
-    ∙ ap (λ z. b || z) (sym (at_drop_more (λ ys. in_row ys n) xs i (run 0 0) l)) ∙ h
-
--- no run is left
-pub all_packed : (xs : List Run) (i n : ℕ) (b t : Bool) → length xs ≤ i → (b || in_row (drop i xs) n) ≡ t → b ≡ t
-all_packed xs i n b t l h =
-    let e = at_drop_all (λ ys. in_row ys n) xs i l in
-    let z : b ≡ (b || false) = grind (arith, nat_tests) in
-    z ∙ ap (λ v. b || v) (sym e) ∙ h
 
 -- no run reaches past the row
 past_end : (lo w : ℕ) (xs : List Run) (c : ℕ) → row_ok lo w xs ≡ true → w ≤ c → in_row xs c ≡ false

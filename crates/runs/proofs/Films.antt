@@ -1,7 +1,5 @@
 -- A film with one row written.
-use Rattle.std.proofs.Common.{◌≡◌, ℕ, ◌*◌, ◌<◌, ◌≤◌, Bool, true, false, cond, ◌&&◌, ltb, leb, List, [], ◌++◌, get_or, take, drop, replicate, Some, None, Ok, sym, refl, ap, ◌∙◌, ⊎_elim, arith}
-use lib.ListN.{length-replicate}
-use Rattle.std.proofs.lemmas.List.{get_or_append_left, get_or-replicate}
+use Rattle.std.proofs.Common.{◌≡◌, ℕ, ◌*◌, ◌<◌, ◌≤◌, Bool, true, false, cond, ◌&&◌, ltb, leb, List, [], ◌++◌, get_or, drop, Ok, sym, refl, ap, ◌∙◌, ⊎_elim, arith}
 use Rattle.std.proofs.lemmas.Bool.{cases_eq, and_from, and_parts, leb-true, le-leb}
 use Rattle.std.proofs.lemmas.Bool.Decides.{nat_tests}
 use Rattle.film.specs.Film.{Beside, SpanWritten, in_span}
@@ -9,9 +7,6 @@ use Rattle.film.specs.declared.numbers.Numbers.{Numbers}
 use Rattle.runs.specs.declared.run.Run.{Run}
 use Rattle.runs.specs.Rows.{row_ok, in_row}
 use Rattle.runs.specs.Slots.{row_slots, runs_of, row_sound, run_meaning, spread, run_beside}
-use Rattle.film.specs.Faults.{call}
-use Rattle.film.specs.Made.{frame_of}
-use Rattle.runs.specs.Made.{run_refusal, NewRunFilm}
 use Rattle.runs.specs.Changed.{RowChanged}
 use Rattle.runs.proofs.Places.{row_room}
 
@@ -54,15 +49,6 @@ span_written n row a b dark counts counts' slots slots' l h k s q =
           (cases_eq r row);
     }
 
--- a row with no runs is in order
-pub empty_sound : (w r : ℕ) (counts : List ℕ) (slots : List Run) → get_or counts r 0 ≡ 0 → row_sound counts slots w r ≡ true
-empty_sound w r counts slots e =
-    and_from (leb (get_or counts r 0) (row_slots w)) _ (le-leb _ _ (omega arith)) (ap (λ n. row_ok 0 w (take n (drop (r * row_slots w) slots))) e)
-
--- and shows nothing
-pub empty_clear : (w r c : ℕ) (counts : List ℕ) (slots : List Run) → get_or counts r 0 ≡ 0 → in_row (runs_of counts slots w r) c ≡ false
-empty_clear w r c counts slots e = ap (λ n. in_row (take n (drop (r * row_slots w) slots)) c) e
-
 pub beside_kept : (n : Numbers) (row a b : ℕ) (dark : Bool) (counts counts' : List ℕ) (slots slots' : List Run) → row < n.height
     → RowChanged n.width counts slots row a b dark counts' slots' → run_beside counts' slots' n ≡ run_beside counts slots n
 beside_kept n row a b dark counts counts' slots slots' l q =
@@ -70,22 +56,3 @@ beside_kept n row a b dark counts counts' slots slots' l q =
     let r = row_room row n.height (row_slots n.width) l in
     ap (λ cs. B cs (drop (n.height * row_slots n.width) slots')) (q.later_counts n.height l)
     ∙ ap (B (drop n.height counts)) (q.later_slots (n.height * row_slots n.width) r)
-
--- a film whose own counts were made 0
-zero_count : (h r : ℕ) (xs ys : List ℕ) → ys ≡ replicate h 0 ++ drop h xs → r < h → get_or ys r 0 ≡ 0
-zero_count h r xs ys e l =
-    ap (λ zs. get_or zs r 0) e ∙ get_or_append_left (replicate h 0) (drop h xs) 0 r (simp length-replicate l) ∙ get_or-replicate h r 0 0 l
-
-pub new_sound : (n : Numbers) (xs ys : List ℕ) (slots : List Run) → ys ≡ replicate n.height 0 ++ drop n.height xs
-    → (r : ℕ) → r < n.height → row_sound ys slots n.width r ≡ true
-new_sound n xs ys slots e r l = empty_sound n.width r ys slots (zero_count n.height r xs ys e l)
-
-pub new_film : (n : Numbers) (xs ys : List ℕ) (slots : List Run) → ys ≡ replicate n.height 0 ++ drop n.height xs
-    → NewRunFilm (frame_of n) xs n ys slots
-new_film n xs ys slots e = record { frame = refl; counts = e; clear = λ c r h k. empty_clear n.width r c ys slots (zero_count n.height r xs ys e k) }
-
-pub not_refused : (n : Numbers) (counts slots : ℕ) → (leb n.height counts && leb (n.height * row_slots n.width) slots) ≡ true
-    → run_refusal (frame_of n) counts slots ≡ None
-not_refused n counts slots e =
-    ap (λ b. cond b (cond (leb n.height counts && leb (n.height * row_slots n.width) slots) None (Some (call 2))) (Some (call 1))) n.ok
-    ∙ ap (λ b. cond b None (Some (call 2))) e

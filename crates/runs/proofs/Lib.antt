@@ -1,4 +1,5 @@
-pub mod Lists
+pub mod Holding
+pub mod Turning
 pub mod Steps
 pub mod Meaning
 pub mod Places

@@ -1,9 +1,15 @@
 -- What a row shows after a span is darkened or cleared, and that it stays in order.
-use Rattle.std.proofs.Common.{◌≡◌, ℕ, suc, ◌+◌, ◌*◌, ◌<◌, ◌≤◌, min, max, Bool, true, false, cond, ◌&&◌, ◌||◌, ltb, leb, List, [], ◌∷◌, length, refl, ⊎_elim, arith}
+use Rattle.std.proofs.Common.{◌≡◌, ℕ, suc, ◌+◌, ◌*◌, ◌<◌, ◌≤◌, min, max, Bool, true, false, cond, ◌&&◌, ◌||◌, ltb, leb, List, [], ◌∷◌, length, refl, ap, ⊎_elim, arith}
 use Rattle.std.proofs.lemmas.Bool.{cases_lt, cases_Bool}
 use Rattle.std.proofs.lemmas.Bool.Decides.{nat_tests}
+use Rattle.std.specs.List.{list_any}
 use Rattle.runs.specs.declared.run.Run.{Run}
 use Rattle.runs.specs.Rows.{run, in_run, in_row, row_ok, absorbed, darkened, dropped, cleared, RowWritten}
+
+-- a column is dark where one of the runs holds it
+pub any_holds : (xs : List Run) (c : ℕ) → list_any (λ (x : Run). in_run x c) xs ≡ in_row xs c
+any_holds [] c = refl
+any_holds (x ∷ xs) c = ap (λ b. in_run x c || b) (any_holds xs c)
 
 pub record Parts (lo w : ℕ) (x : Run) (xs : List Run) : Type 0 where
   pub low : lo ≤ x.first
@@ -156,9 +162,6 @@ clear_written w a b dark xs ys q h l k e = rw e (record {
   ordered = cleared_ok 0 w a b xs h l k;
   columns = λ c. rw q (cleared_in 0 w a b xs c h (omega arith));
 })
-
-pub none_written : (w a b : ℕ) (dark : Bool) (xs : List Run) → row_ok 0 w xs ≡ true → a ≡ b → RowWritten w xs a b dark xs
-none_written w a b dark xs h e = record { ordered = h; columns = λ c. grind (arith, nat_tests) }
 
 pub darkened_room : (w a b n : ℕ) (xs : List Run) → row_ok 0 w xs ≡ true → a < b → b ≤ w → w ≤ 2 * n → length (darkened a b xs) ≤ n
 darkened_room w a b n xs h l k r = omega (arith, room 0 w (darkened a b xs) (darkened_ok 0 w a b xs h (omega arith) l k) (omega arith))

@@ -20,11 +20,11 @@ put_within a k xs ys h l = record {
   after = λ m q. drop-put_mid a k xs ys m q (omega arith) l;
 }
 
-pub row_changed : (w row a b m : ℕ) (dark : Bool) (counts : List ℕ) (slots slots' : List Run) → row < length counts
+changed_row : (w row a b m : ℕ) (dark : Bool) (counts : List ℕ) (slots slots' : List Run) → row < length counts
     → RowWritten w (runs_of counts slots w row) a b dark (take m (drop (row * row_slots w) slots'))
     → m ≤ row_slots w → Within slots (row * row_slots w) (row_slots w) slots'
     → RowChanged w counts slots row a b dark (set counts row m) slots'
-row_changed w row a b m dark counts slots slots' lt h l q =
+changed_row w row a b m dark counts slots slots' lt h l q =
     let e : get_or (set counts row m) row 0 ≡ m = rw get_or-set_same in
     record {
       written = rw e h;
@@ -42,6 +42,12 @@ row_changed w row a b m dark counts slots slots' lt h l q =
           (cases_order r row);
     }
 
+pub row_changed : (w row a b m k : ℕ) (dark : Bool) (counts : List ℕ) (slots slots' : List Run) → row < length counts → k ≡ row_slots w
+    → RowWritten w (take (get_or counts row 0) (drop (row * k) slots)) a b dark (take m (drop (row * k) slots'))
+    → m ≤ k → Within slots (row * k) k slots'
+    → RowChanged w counts slots row a b dark (set counts row m) slots'
+row_changed w row a b m k dark counts slots slots' lt s h l q = changed_row w row a b m dark counts slots slots' lt (rw s at h) (rw s at l) (rw s at q)
+
 pub part_room : {X : Type 0} (a k : ℕ) (xs : List X) → a + k ≤ length xs → length (take (a + k - a) (drop a xs)) ≡ k
 part_room a k xs h = simp (length-take, length-drop) (omega arith)
 
@@ -53,6 +59,21 @@ moved_row w a b dark xs xs' ys ys' e f h = rw e (rw f h)
 
 pub moved_within : (a k k' : ℕ) (xs ys : List Run) → k' ≡ k → Within xs a k ys → Within xs a k' ys
 moved_within a k k' xs ys e h = rw e h
+
+-- the slots of a row put back once its runs are written
+pub row_put : (w row a b m k : ℕ) (dark : Bool) (counts : List ℕ) (slots ys : List Run) → row < length counts → row * k + k ≤ length slots → k ≡ row_slots w
+    → get_or counts row 0 ≤ k → length ys ≡ length (take (row * k + k - row * k) (drop (row * k) slots)) → m ≤ length ys
+    → RowWritten w (take (get_or counts row 0) (take (row * k + k - row * k) (drop (row * k) slots))) a b dark (take m ys)
+    → RowChanged w counts slots row a b dark (set counts row m) (put_mid (row * k) (row * k + k - row * k) slots ys)
+row_put w row a b m k dark counts slots ys lt room e few long le h =
+    let at = row * k in
+    let n = get_or counts row 0 in
+    let own = at + k - at in
+    let l = part_room at k slots room in
+    let part = put_row at own m slots ys (omega arith) le in
+    let rest = moved_within at own k slots (put_mid at own slots ys) (omega arith) (put_within at own slots ys (omega arith) (omega arith)) in
+    let written = moved_row w a b dark _ _ _ _ (sym (part_front at k n slots few)) part h in
+    row_changed w row a b m k dark counts slots (put_mid at own slots ys) lt e written (omega arith) rest
 
 -- the slots of a row end where those of the next begin
 pub row_room : (row h k : ℕ) → row < h → row * k + k ≤ h * k

@@ -1,47 +1,18 @@
 -- The functions of a row, step by step as the code goes.
-use Rattle.std.proofs.Common.{◌≡◌, ℕ, ◌+◌, ◌-◌, ◌<◌, ◌≤◌, min, max, Bool, true, false, cond, ◌||◌, ltb, List, [], ◌∷◌, ◌++◌, length, get_or, take, drop, set, sym, refl, ap, ◌∙◌, ⊎_elim, add-one, one-add, arith, rules}
+use Rattle.std.proofs.Common.{◌≡◌, ℕ, ◌+◌, ◌-◌, ◌<◌, ◌≤◌, max, true, false, cond, ltb, List, [], ◌∷◌, ◌++◌, length, get_or, take, drop, set, sym, refl, ap, ◌∙◌, ⊎_elim, add-one, one-add, arith, rules}
 use Rattle.std.specs.List.{insert, prefix_len}
-use Rattle.std.proofs.lemmas.List.{append-nil, places, same_lists, at_drop_more, at_drop_all, set_split, take_at, drop_at, take_all, take-take, take-append-le, length-take-le, length-take, length-drop, length-append, get_or-take, get_or-set_same, get_or-set_other}
-use Rattle.std.proofs.lemmas.Bool.{cases_Bool, cases_eq, le-leb, lt-leb}
+use Rattle.std.proofs.lemmas.List.{take_rest, drop-drop, length-drop, append-nil, places, same_lists, at_drop_more, at_drop_all, set_split, take_at, drop_at, take_all, take-take, take-append-le, length-take-le, length-take, length-drop, length-append, get_or-take, get_or-set_same, get_or-set_other}
+use Rattle.std.proofs.lemmas.Bool.{cases_Bool, cases_eq}
 use Rattle.std.proofs.lemmas.Bool.Decides.{nat_tests}
 use Rattle.runs.specs.declared.run.Run.{Run}
-use Rattle.runs.specs.Rows.{run, in_run, in_row, absorbed, darkened, trimmed, dropped, left_of, cleared, Ends}
+use Rattle.runs.specs.Rows.{run, absorbed, darkened, trimmed, dropped, left_of, cleared}
 
-pub hit : (xs : List Run) (i c : ℕ) (b : Bool) → i < length xs → in_row (drop i xs) c ≡ in_row xs c → b ≡ in_run (get_or xs i (run 0 0)) c → b ≡ true
-    → true ≡ in_row xs c
-hit xs i c b l h e t =
-    let m = at_drop_more (λ ys. in_row ys c) xs i (run 0 0) l in
-    let u : in_run (get_or xs i (run 0 0)) c ≡ true = sym e ∙ t in
-    sym (sym h ∙ m ∙ ap (λ z. z || in_row (drop (i + 1) xs) c) u)
-
-pub miss : (xs : List Run) (i c : ℕ) (b : Bool) → i < length xs → in_row (drop i xs) c ≡ in_row xs c → b ≡ in_run (get_or xs i (run 0 0)) c → b ≡ false
-    → in_row (drop (i + 1) xs) c ≡ in_row xs c
-miss xs i c b l h e t =
-    let m = at_drop_more (λ ys. in_row ys c) xs i (run 0 0) l in
-    let u : in_run (get_or xs i (run 0 0)) c ≡ false = sym e ∙ t in
-    sym (ap (λ z. z || in_row (drop (i + 1) xs) c) u) ∙ sym m ∙ h
-
-pub absorb_more : (lo hi lo' hi' : ℕ) (xs : List Run) (i : ℕ) → i < length xs → (get_or xs i (run 0 0)).first ≤ hi
-    → lo' ≡ min lo (get_or xs i (run 0 0)).first → hi' ≡ max hi (get_or xs i (run 0 0)).end
-    → absorbed lo' hi' (drop (i + 1) xs) ≡ absorbed lo hi (drop i xs)
-absorb_more lo hi lo' hi' xs i l h e f =
-    let x = get_or xs i (run 0 0) in
-    let t = le-leb x.first hi h in
-    ap (λ n. absorbed n hi' (drop (i + 1) xs)) e ∙ ap (λ n. absorbed (min lo x.first) n (drop (i + 1) xs)) f
-    ∙ ap (λ b. cond b (absorbed (min lo x.first) (max hi x.end) (drop (i + 1) xs)) (run lo hi ∷ x ∷ drop (i + 1) xs)) (sym t)
-    ∙ sym (at_drop_more (absorbed lo hi) xs i (run 0 0) l)
-
-pub absorb_stop : (lo hi : ℕ) (xs : List Run) (i : ℕ) → i < length xs → hi < (get_or xs i (run 0 0)).first
-    → absorbed lo hi (drop i xs) ≡ run lo hi ∷ drop i xs
-absorb_stop lo hi xs i l h =
-    let x = get_or xs i (run 0 0) in
-    let t = lt-leb x.first hi h in
-    at_drop_more (absorbed lo hi) xs i (run 0 0) l
-    ∙ ap (λ b. cond b (absorbed (min lo x.first) (max hi x.end) (drop (i + 1) xs)) (run lo hi ∷ x ∷ drop (i + 1) xs)) t
-    ∙ sym (at_drop_more (λ ys. run lo hi ∷ ys) xs i (run 0 0) l)
-
-pub absorb_end : (lo hi : ℕ) (xs : List Run) (i : ℕ) → length xs ≤ i → absorbed lo hi (drop i xs) ≡ run lo hi ∷ drop i xs
-absorb_end lo hi xs i h = at_drop_all (absorbed lo hi) xs i h ∙ sym (at_drop_all (λ ys. run lo hi ∷ ys) xs i h)
+-- k runs end at or before a, and j at or before b
+pub record Ends (a b : ℕ) (xs : List Run) (k j : ℕ) : Type 0 where
+  pub low : k ≡ prefix_len (λ (x : Run). ltb x.end (a + 1)) xs
+  pub high : j ≡ prefix_len (λ (x : Run). ltb x.end (b + 1)) xs
+  pub order : k ≤ j
+  pub bound : j ≤ length xs
 
 pub take_set_in : {X : Type 0} (s : List X) (n j : ℕ) (v : X) → j < n → n ≤ length s → take n (set s j v) ≡ set (take n s) j v
 take_set_in s n j v h l = same_lists _ _ (search (rules, places)) (λ k d q.
@@ -62,12 +33,6 @@ trim_some s n j b f h l e =
     ∙ ap (λ k. take j (take n s) ++ run k x.end ∷ drop (j + 1) (take n s)) e
     ∙ ap (λ y. take j (take n s) ++ trimmed b (y ∷ drop (j + 1) (take n s))) (sym g)
     ∙ sym (at_drop_more (λ ys. take j (take n s) ++ trimmed b ys) (take n s) j (run 0 0) len)
-
-pub trim_none : (s : List Run) (n j b : ℕ) → n ≤ j → n ≤ length s
-    → take n s ≡ take j (take n s) ++ trimmed b (drop j (take n s))
-trim_none s n j b h l =
-    let len : length (take n s) ≤ j = simp length-take (omega arith) in
-    sym (at_drop_all (λ ys. take j (take n s) ++ trimmed b ys) (take n s) j len ∙ append-nil (take j (take n s)) ∙ take_all j (take n s) len)
 
 -- a run put where others were taken out
 pub spliced : {X : Type 0} (xs ys : List X) (k : ℕ) (x : X) → k ≤ length xs → insert (take k xs ++ ys) k x ≡ take k xs ++ x ∷ ys
@@ -175,3 +140,42 @@ clear_right a b k j f xs h e l q lt =
     ∙ at_drop_more (λ ys. take k xs ++ (left_of a ys ++ trimmed b (drop j xs))) xs k (run 0 0) l
     ∙ ap (λ n. take k xs ++ (cond (ltb n a) (run n a ∷ []) [] ++ trimmed b (drop j xs))) (sym q)
     ∙ ap (λ v. take k xs ++ (cond v (run f a ∷ []) [] ++ trimmed b (drop j xs))) t
+
+-- a run joined at place k takes the place of those up to j
+pub record Joined (a b k j : ℕ) (x : Run) (xs : List Run) : Type 0 where
+  pub is : darkened a b xs ≡ take k xs ++ x ∷ drop j xs
+  pub order : k ≤ j
+  pub bound : j ≤ length xs
+
+pub joins : (a b k n : ℕ) (x : Run) (xs vs ws : List Run) → vs ≡ xs → ws ≡ xs → k ≤ length xs → k ≡ prefix_len (λ (x : Run). ltb x.end a) vs
+    → absorbed a b (take (length ws - k) (drop k ws)) ≡ x ∷ drop n (take (length ws - k) (drop k ws)) → n ≤ length (take (length ws - k) (drop k ws))
+    → Joined a b k (k + n) x xs
+joins a b k n x xs vs ws e f q p h l =
+    let rest : take (length ws - k) (drop k ws) ≡ drop k xs = take_rest ws k ∙ ap (drop k) f in
+    let m : n ≤ length (drop k xs) = rw rest at l in
+    let d = length-drop k xs in
+    let g : absorbed a b (drop k xs) ≡ x ∷ drop (k + n) xs = rw rest at h ∙ ap (λ ys. x ∷ ys) (drop-drop n k xs) in
+    record { is = dark_row a b k (k + n) x xs (rw e at p) g; order = omega arith; bound = omega arith }
+
+-- the places where two limits fall
+pub ends_are : (a b k j : ℕ) (xs vs ws : List Run) → a ≤ b → vs ≡ xs → ws ≡ xs → k ≡ prefix_len (λ (x : Run). ltb x.end (a + 1)) vs
+    → j ≡ prefix_len (λ (x : Run). ltb x.end (b + 1)) ws → j ≤ length ws → Ends a b xs k j
+ends_are a b k j xs vs ws h e f p q l =
+    let low = rw e at p in
+    let high = rw f at q in
+    record { low = low; high = high; order = omega (arith, leading_mono a b xs h); bound = rw f at l }
+
+-- there is a place for one run more
+pub put_room : (xs ts hs : List Run) (k j len room : ℕ) → k ≤ j → j ≤ length xs → length ts ≡ length (drop j xs) → hs ≡ take k xs ++ ts → length hs ≡ len
+    → length xs - (j - k) + 1 ≤ room → (k ≤ len) × (len < room)
+put_room xs ts hs k j len room a b t e h r =
+    let d = length-drop j xs in
+    let p = length-take-le k xs (omega arith) in
+    let q : length hs ≡ k + length ts = ap length e ∙ length-append (take k xs) ts ∙ ap (λ n. n + length ts) p in
+    (omega arith, omega arith)
+
+pub trimmed_length : (b j : ℕ) (xs ys : List Run) → j ≤ length xs → ys ≡ take j xs ++ trimmed b (drop j xs) → length ys ≡ length xs
+trimmed_length b j xs ys h e =
+    let d = length-drop j xs in
+    let p = length-take-le j xs h in
+    ap length e ∙ length-append (take j xs) (trimmed b (drop j xs)) ∙ omega (arith, length_trimmed b (drop j xs))

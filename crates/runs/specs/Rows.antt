@@ -1,6 +1,5 @@
 -- The dark runs of one row.
-use Rattle.std.specs.Prelude.{◌≡◌, ℕ, suc, ◌+◌, ◌≤◌, min, max, Bool, true, false, cond, ◌&&◌, ◌||◌, ltb, List, [], ◌∷◌, ◌++◌, length, nat_le, nat_lt}
-use Rattle.std.specs.List.{prefix_len}
+use Rattle.std.specs.Prelude.{◌≡◌, ℕ, suc, ◌+◌, min, max, Bool, true, false, cond, ◌&&◌, ◌||◌, List, [], ◌∷◌, ◌++◌, nat_le, nat_lt}
 use Rattle.runs.specs.declared.run.Run.{Run}
 
 -- columns a to b, which is not one of them
@@ -50,13 +49,6 @@ left_of a (x ∷ xs) = cond (nat_lt x.first a) (run x.first a ∷ []) []
 abbrev pub cleared : ℕ → ℕ → List Run → List Run
 cleared a b [] = []
 cleared a b (x ∷ xs) = cond (nat_lt x.end (a + 1)) (x ∷ cleared a b xs) (left_of a (x ∷ xs) ++ dropped b (x ∷ xs))
-
--- k runs end at or before a, and j at or before b
-pub record Ends (a b : ℕ) (xs : List Run) (k j : ℕ) : Type 0 where
-  pub low : k ≡ prefix_len (λ (x : Run). ltb x.end (a + 1)) xs
-  pub high : j ≡ prefix_len (λ (x : Run). ltb x.end (b + 1)) xs
-  pub order : k ≤ j
-  pub bound : j ≤ length xs
 
 -- ys are the runs xs of a row of w columns with the columns a to b written
 pub record RowWritten (w : ℕ) (xs : List Run) (a b : ℕ) (dark : Bool) (ys : List Run) : Type 0 where

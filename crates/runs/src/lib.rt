@@ -8,7 +8,10 @@
 // `into_memory` gives it back. Counts and slots past the film's own stay as they were.
 #![tactic(auto)]
 
+mod changing;
+mod finding;
 pub mod making;
+pub mod memory;
 mod pack;
 mod row;
 mod rows;

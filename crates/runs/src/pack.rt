@@ -6,21 +6,12 @@ ghost use Rattle.runs.specs.Rows.{in_row};
 use crate::run::Run;
 use bits::fill_bits;
 
-// Makes every byte 0.
-fn blank(out: &mut [u8])
-    ensures { (k : ℕ) → slice_index out.new k ≡ 0 }
-{
-    for b in out.iter_mut() {
-        *b = 0;
-    }
-}
-
 // Makes the bits of the runs dark and all others clear.
 pub(crate) fn pack_runs(row: &[Run], out: &mut [u8])
     ensures bits { (n : ℕ) → n / 8 < length out.old → bit_of out.new n ≡ in_row row.now n }
     ensures fit { (k : ℕ) → slice_index out.new k < 256 }
 {
-    blank(out);
+    out.fill(0);
     for x in row {
         fill_bits(out, x.first as usize, x.end as usize, true);
     }

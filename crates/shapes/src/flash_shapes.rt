@@ -1,18 +1,19 @@
-ghost use Rattle.std.specs.Prelude.{◌≡◌, ◌≤◌, pos, ◌+ℤ◌, ◌-ℤ◌, nat_le, unsigned_abs};
-ghost use Rattle.plane.specs.Plane.{spot};
+ghost use Rattle.std.specs.Prelude.{◌≡◌, ◌≤◌, unsigned_abs};
 ghost use Rattle.plane.specs.Points.{place_at, vector_at};
-ghost use Rattle.shapes.specs.Box.{Encloses, box_about};
+ghost use Rattle.shapes.specs.Box.{box_about};
 ghost use Rattle.shapes.specs.Flashes.{near, in_circle, in_rectangle, in_lying, in_obround, circle_at, rectangle_at, obround_at};
 
 use crate::flashes::{Circle, Obround, Rectangle};
+use crate::reach::Reach;
 use crate::shape::Shape;
 use plane::points::{Bounds, Half, Place, Point, Vector};
-use plane::vectors::{norm, squared, way_to_point};
+
+// from here to `in_obround` no methods: halves and vectors are types of the plane
 
 fn is_near(half: Half, w: Vector) -> bool
     ensures { result ≡ near half.ticks (vector_at w) }
 {
-    norm(w) <= squared(half)
+    w.norm() <= half.squared()
 }
 
 /// Whether a circle of this half covers what lies at `w` from its place.
@@ -22,50 +23,27 @@ pub fn in_circle(half: Half, w: Vector) -> bool
     half.ticks > 0 && is_near(half, w)
 }
 
-fn is_within(a: u32, z: i64) -> bool
-    ensures { result ≡ nat_le (unsigned_abs z) a }
-{
-    z.unsigned_abs() <= a as u64
-}
-
 fn in_rectangle(a: u32, b: u32, w: Vector) -> bool
     ensures { result ≡ in_rectangle a b (vector_at w) }
 {
-    is_within(a, w.x) && is_within(b, w.y)
+    w.x.unsigned_abs() <= a as u64 && w.y.unsigned_abs() <= b as u64
 }
 
-// the way from the right end of an obround's middle line
-fn from_right(e: u32, w: Vector) -> Vector
-    requires { (e ≤ 5000) × (unsigned_abs w.x ≤ 1500000) }
-    ensures { vector_at result ≡ spot (w.x -ℤ pos e) w.y }
-{
-    Vector {
-        x: w.x - e as i64,
-        y: w.y,
-    }
-}
-
-fn from_left(e: u32, w: Vector) -> Vector
-    requires { (e ≤ 5000) × (unsigned_abs w.x ≤ 1500000) }
-    ensures { vector_at result ≡ spot (w.x +ℤ pos e) w.y }
-{
-    Vector {
-        x: w.x + e as i64,
-        y: w.y,
-    }
-}
-
+// `w` from the middle, which the ends of the middle line lie `e` to either side of
 fn in_lying(e: u32, b: Half, w: Vector) -> bool
     requires { (e ≤ 5000) × (unsigned_abs w.x ≤ 1500000) }
     ensures { result ≡ in_lying e b.ticks (vector_at w) }
 {
-    in_rectangle(e, b.ticks, w) || is_near(b, from_right(e, w)) || is_near(b, from_left(e, w))
-}
-
-fn exchanged(w: Vector) -> Vector
-    ensures { vector_at result ≡ spot w.y w.x }
-{
-    Vector { x: w.y, y: w.x }
+    let side = e as i64;
+    let from_right = Vector {
+        x: w.x - side,
+        y: w.y,
+    };
+    let from_left = Vector {
+        x: w.x + side,
+        y: w.y,
+    };
+    in_rectangle(e, b.ticks, w) || is_near(b, from_right) || is_near(b, from_left)
 }
 
 fn in_obround(a: Half, b: Half, w: Vector) -> bool
@@ -75,72 +53,22 @@ fn in_obround(a: Half, b: Half, w: Vector) -> bool
     if b.ticks <= a.ticks {
         in_lying(a.ticks - b.ticks, b, w)
     } else {
-        in_lying(b.ticks - a.ticks, a, exchanged(w))
+        in_lying(b.ticks - a.ticks, a, Vector { x: w.y, y: w.x })
     }
 }
 
-fn circle_covers(q: Place, half: Half, p: Point) -> bool
-    ensures { result ≡ circle_at (place_at q) half.ticks p.x p.y }
-{
-    in_circle(half, way_to_point(q, p))
-}
-
-fn rectangle_covers(q: Place, a: Half, b: Half, p: Point) -> bool
-    ensures { result ≡ rectangle_at (place_at q) a.ticks b.ticks p.x p.y }
-{
-    in_rectangle(a.ticks, b.ticks, way_to_point(q, p))
-}
-
-fn obround_covers(q: Place, a: Half, b: Half, p: Point) -> bool
-    ensures { result ≡ obround_at (place_at q) a.ticks b.ticks p.x p.y }
-{
-    in_obround(a, b, way_to_point(q, p))
-}
-
-fn lower(z: i32, by: Half) -> i32
-    requires { unsigned_abs z ≤ 345000 }
-    ensures { result ≡ z -ℤ pos by.ticks }
-{
-    z - by.ticks as i32
-}
-
-fn higher(z: i32, by: Half) -> i32
-    requires { unsigned_abs z ≤ 345000 }
-    ensures { result ≡ z +ℤ pos by.ticks }
-{
-    z + by.ticks as i32
-}
-
-fn box_about(q: Place, a: Half, b: Half) -> Bounds
+/// The box about a place, `a` to either side and `b` up and down.
+pub fn box_about(q: Place, a: Reach, b: Reach) -> Bounds
     ensures { result ≡ box_about (place_at q) a.ticks b.ticks }
 {
+    let a = a.ticks as i32;
+    let b = b.ticks as i32;
     Bounds {
-        left: lower(q.x, a),
-        right: higher(q.x, a),
-        bottom: lower(q.y, b),
-        top: higher(q.y, b),
+        left: q.x - a,
+        right: q.x + a,
+        bottom: q.y - b,
+        top: q.y + b,
     }
-}
-
-fn circle_box(q: Place, half: Half) -> Bounds
-    ensures value { result ≡ box_about (place_at q) half.ticks half.ticks }
-    ensures law { Encloses (circle_at (place_at q) half.ticks) (box_about (place_at q) half.ticks half.ticks) }
-{
-    box_about(q, half, half)
-}
-
-fn rectangle_box(q: Place, a: Half, b: Half) -> Bounds
-    ensures value { result ≡ box_about (place_at q) a.ticks b.ticks }
-    ensures law { Encloses (rectangle_at (place_at q) a.ticks b.ticks) (box_about (place_at q) a.ticks b.ticks) }
-{
-    box_about(q, a, b)
-}
-
-fn obround_box(q: Place, a: Half, b: Half) -> Bounds
-    ensures value { result ≡ box_about (place_at q) a.ticks b.ticks }
-    ensures law { Encloses (obround_at (place_at q) a.ticks b.ticks) (box_about (place_at q) a.ticks b.ticks) }
-{
-    box_about(q, a, b)
 }
 
 impl Shape for Circle {
@@ -148,12 +76,13 @@ impl Shape for Circle {
 
     ghost boxed = { λ s. box_about (place_at s.place) s.half.ticks s.half.ticks };
 
+    #[tactic(auto, unfolding(crate::specs::Flashes::circle_at))]
     fn covers(&self, p: Point) -> bool {
-        circle_covers(self.place, self.half, p)
+        in_circle(self.half, self.place.way_to(p))
     }
 
     fn bounds(&self) -> Bounds {
-        circle_box(self.place, self.half)
+        box_about(self.place, self.half.into(), self.half.into())
     }
 }
 
@@ -162,12 +91,13 @@ impl Shape for Rectangle {
 
     ghost boxed = { λ s. box_about (place_at s.place) s.a.ticks s.b.ticks };
 
+    #[tactic(auto, unfolding(crate::specs::Flashes::rectangle_at))]
     fn covers(&self, p: Point) -> bool {
-        rectangle_covers(self.place, self.a, self.b, p)
+        in_rectangle(self.a.ticks, self.b.ticks, self.place.way_to(p))
     }
 
     fn bounds(&self) -> Bounds {
-        rectangle_box(self.place, self.a, self.b)
+        box_about(self.place, self.a.into(), self.b.into())
     }
 }
 
@@ -176,11 +106,13 @@ impl Shape for Obround {
 
     ghost boxed = { λ s. box_about (place_at s.place) s.a.ticks s.b.ticks };
 
+    #[tactic(auto, unfolding(crate::specs::Flashes::obround_at))]
     fn covers(&self, p: Point) -> bool {
-        obround_covers(self.place, self.a, self.b, p)
+        in_obround(self.a, self.b, self.place.way_to(p))
     }
 
     fn bounds(&self) -> Bounds {
-        obround_box(self.place, self.a, self.b)
+        let Obround { place, a, b } = *self;
+        box_about(place, a.into(), b.into())
     }
 }

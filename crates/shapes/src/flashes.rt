@@ -1,14 +1,14 @@
 use plane::points::{Half, Place};
 
 /// A circle about `place`.
-#[derive(Clone, Copy)]
+#[derive(Clone, Copy, PartialEq, Eq, Debug)]
 pub struct Circle {
     pub place: Place,
     pub half: Half,
 }
 
 /// A rectangle about `place`, `a` to either side and `b` up and down.
-#[derive(Clone, Copy)]
+#[derive(Clone, Copy, PartialEq, Eq, Debug)]
 pub struct Rectangle {
     pub place: Place,
     pub a: Half,
@@ -16,7 +16,8 @@ pub struct Rectangle {
 }
 
 /// An obround about `place`: the rectangle of these halves with its shorter sides made round.
-#[derive(Clone, Copy)]
+// a type beside the rectangle, since it covers other points
+#[derive(Clone, Copy, PartialEq, Eq, Debug)]
 pub struct Obround {
     pub place: Place,
     pub a: Half,

@@ -1,9 +1,11 @@
 -- Bytes put into an output one after another.
-use Rattle.std.proofs.Common.{◌≡◌, ℕ, ◌+◌, ◌/◌, ◌%◌, ◌^◌, ◌<◌, ◌≤◌, List, [], ◌∷◌, ◌++◌, length, take, drop, set, decimal, sym, refl, ap, ◌∙◌, subst, add-one, arith}
+use Rattle.std.proofs.Common.{◌≡◌, ℕ, ◌+◌, ◌/◌, ◌%◌, ◌^◌, ◌<◌, ◌≤◌, List, [], ◌∷◌, ◌++◌, length, decimal, sym, refl, ap, ◌∙◌, subst, add-one, arith, zero, suc, ◌*◌, max, ⊎_elim}
 use lib.Seq.{paste}
-use Rattle.std.proofs.lemmas.Fmt.{decimal_digit, decimal_step}
+use Rattle.std.proofs.Math.Nat.{pow-succ', one-le-pow}
+use Rattle.std.proofs.lemmas.Bool.{cases_lt}
+use Rattle.std.proofs.lemmas.Fmt.{decimal_digit, decimal_step, decimal_nonempty, length-decimal-le}
 use Rattle.std.proofs.lemmas.List.Edits.{paste-paste, paste_all, length-paste}
-use Rattle.std.proofs.lemmas.List.{set_split, length_push, length-append}
+use Rattle.std.proofs.lemmas.List.{length_push, length-append}
 use Rattle.sheet.specs.Sheet.{put, Put, header, sheet_length}
 
 put_paste : (at : ℕ) (ys out : List ℕ) → put at ys out ≡ paste out at ys (length ys)
@@ -28,23 +30,47 @@ puts {at = at} {ys = ys} {zs = zs} {out = out} {mid = mid} h a b = record {
   ends = let e = length-append ys zs in let f = a.ends in let g = b.ends in omega arith;
 }
 
-pub put_one : (at byte : ℕ) (out : List ℕ) → at < length out → Put at (byte ∷ []) out (set out at byte) (at + 1)
-put_one at byte out h = record { output = set_split out at byte h ∙ ap (λ n. take at out ++ (byte ∷ drop n out)) (sym (add-one at)); ends = refl }
+-- a number of one digit, and the last digit of a longer one
+pub one_digit : {at p n q : ℕ} {out mid left : List ℕ} → n < 10 → p ≡ at → mid ≡ out → Put p ((48 + n % 10) ∷ []) mid left q → Put at (decimal n) out left q
+one_digit {at = at} {n = n} {q = q} {out = out} {left = left} h e f b =
+    let P : List ℕ → Type 0 = λ ys. Put at ys out left q in
+    let d : n % 10 ≡ n = omega arith in
+    subst P (sym (decimal_digit n h)) (subst (λ k. P ((48 + k) ∷ [])) d (rw e at (rw f at b)))
 
--- a digit alone, and one digit more, of a number
-pub digit_put : {at n q : ℕ} {out left : List ℕ} → n < 10 → Put at ((48 + n) ∷ []) out left q → Put at (decimal n) out left q
-digit_put {at = at} {n = n} {q = q} {out = out} {left = left} h a = let P : List ℕ → Type 0 = λ ys. Put at ys out left q in subst P (sym (decimal_digit n h)) a
-
-pub number_put : {at n p q : ℕ} {out mid left : List ℕ} → at ≤ length out → 10 ≤ n → n < 2 ^ 64
-    → Put at (decimal (n / 10)) out mid p → Put p ((48 + n % 10) ∷ []) mid left q → Put at (decimal n) out left q
-number_put {at = at} {n = n} {q = q} {out = out} {left = left} h t l a b =
-    let P : List ℕ → Type 0 = λ ys. Put at ys out left q in subst P (sym (decimal_step n t l)) (puts h a b)
+pub last_digit : {at n o p q : ℕ} {out mid seen left : List ℕ} → at ≤ length out → 10 ≤ n → n < 2 ^ 64
+    → Put at (decimal (n / 10)) out mid o → p ≡ o → seen ≡ mid → Put p ((48 + n % 10) ∷ []) seen left q → Put at (decimal n) out left q
+last_digit {at = at} {n = n} {q = q} {out = out} {left = left} h t l a e f b =
+    let P : List ℕ → Type 0 = λ ys. Put at ys out left q in subst P (sym (decimal_step n t l)) (puts h a (rw e at (rw f at b)))
 
 pub length_number : (n : ℕ) → 10 ≤ n → n < 2 ^ 64 → length (decimal n) ≡ length (decimal (n / 10)) + 1
 length_number n t l = ap length (decimal_step n t l) ∙ length_push (decimal (n / 10)) (48 + n % 10)
 
 pub length_digit : (n : ℕ) → n < 10 → length (decimal n) ≡ 1
 length_digit n h = ap length (decimal_digit n h)
+
+-- a number from the k-th power of 10 on has more than k digits
+more_digits : (k n : ℕ) → 10 ^ k ≤ n → n < 2 ^ 64 → k < length (decimal n)
+more_digits zero n h l = decimal_nonempty n l
+more_digits (suc k) n h l =
+    let p = pow-succ' 10 k in
+    let one = one-le-pow k 10 (omega arith) in
+    let q = more_digits k (n / 10) (omega arith) (omega arith) in
+    omega (arith, length_number n (omega arith) l)
+
+no_power : (k : ℕ) → 10 ^ k ≤ 1 → k ≡ 0
+no_power zero h = refl
+no_power (suc k) h = absurd (omega (arith, pow-succ' 10 k, one-le-pow k 10 (omega arith)))
+
+-- digits are counted by the power of 10 that a number reaches
+pub digit_count : (n m k : ℕ) → m ≡ max n 1 → n < 2 ^ 32 → 10 ^ k ≤ m → m < 10 * 10 ^ k → length (decimal n) ≡ k + 1
+digit_count n m k e l a b = ⊎_elim
+    (λ (z : n < 1). let none = no_power k (omega arith) in omega (arith, length_digit n (omega arith)))
+    (λ (z : 1 ≤ n).
+    let p = pow-succ' 10 k in
+    let i = add-one k in
+    let up = length-decimal-le (suc k) n (omega arith) (omega arith) (omega arith) in
+    omega (arith, more_digits k n (omega arith) (omega arith)))
+    (cases_lt n 1)
 
 pub length_header : (w h : ℕ) → length (header w h) ≡ length (decimal w) + length (decimal h) + 5
 unfolding header

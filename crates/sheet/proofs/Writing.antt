@@ -1,8 +1,8 @@
 -- One row of a film after another.
-use Rattle.std.proofs.Common.{◌≡◌, ℕ, zero, suc, ◌+◌, ◌*◌, ◌<◌, ◌≤◌, true, cond, leb, List, [], ◌++◌, length, take, drop, Ok, Err, Result, sym, ap, ◌∙◌, add-mul, zero-add, add-one, arith}
+use Rattle.std.proofs.Common.{◌≡◌, ℕ, zero, suc, ◌+◌, ◌*◌, ◌<◌, ◌≤◌, Bool, true, false, cond, ◌&&◌, leb, List, [], ◌++◌, length, take, drop, Ok, Err, Result, sym, refl, ap, ◌∙◌, add-mul, zero-add, add-one, arith}
 use Rattle.std.proofs.lemmas.Nat.{mul-le}
 use Rattle.std.proofs.lemmas.List.{length-append, take-append-drop}
-use Rattle.std.proofs.lemmas.Bool.{le-leb, and_from}
+use Rattle.std.proofs.lemmas.Bool.{leb-true, and_from}
 use Rattle.std.proofs.lemmas.Bool.Decides.{nat_tests}
 use Rattle.film.specs.Faults.{Told, call}
 use Rattle.film.specs.Frame.{Frame, in_limits}
@@ -11,7 +11,7 @@ use Rattle.film.specs.Packed.{bytes_for, row_bytes}
 use Rattle.film.proofs.Limiting.{limits_of, narrow, short}
 use Rattle.film.proofs.Packing.{length_row_bytes}
 use Rattle.sheet.specs.Sheet.{Sheet, put, header, sheet_length, sheet_sized, open_answer, opened, row_place, row_taken, row_output, row_sheet}
-use Rattle.sheet.specs.Whole.{rows, sheet_bytes, sheet_at}
+use Rattle.sheet.specs.Whole.{rows, sheet_bytes, sheet_at, film_answer, film_output}
 use Rattle.sheet.proofs.Putting.{put_put}
 use Rattle.sheet.proofs.Rows.{header_within}
 
@@ -66,21 +66,6 @@ film_sized f e =
     let k = short f l in
     grind (arith, nat_tests)
 
--- a sheet of a film's size is opened where there is room for it, and is not refused there
-opens : (m : Meaning) (room : ℕ) → sheet_sized m.frame.width m.frame.height ≡ true → sheet_length m.frame.width m.frame.height ≤ room
-    → open_answer m.frame.width m.frame.height room ≡ Ok (sheet_at m 0)
-opens m room s l =
-    ap (λ b. cond b (cond (leb (sheet_length m.frame.width m.frame.height) room) (Ok (sheet_at m 0)) (Err (call 5))) (Err (call 1))) s
-    ∙ ap (λ b. cond b (Ok (sheet_at m 0)) (Err (call 5))) (le-leb _ _ l)
-
-pub not_refused : (m : Meaning) (f : Frame) (room : ℕ) (e : Told) → f ≡ m.frame → in_limits f ≡ true → sheet_length m.frame.width m.frame.height ≤ room
-    → ◌≡◌ {A = Result Sheet Told} (Err e) (open_answer f.width f.height room) → ⊥
-not_refused m f room e q n l a =
-    let sized = ap (λ k. sheet_sized k.width k.height) (sym q) ∙ film_sized f n in
-    let b = a ∙ ap (λ k. open_answer k.width k.height room) q ∙ opens m room sized l in
-    let z : ◌≡◌ {A = ℕ} 0 1 = cc in
-    omega arith
-
 -- a sheet of a film's size is open, there is room for it, and the output has its header
 pub record Opening (m : Meaning) (s : Sheet) (out mid : List ℕ) : Type 0 where
   pub sized : sheet_sized m.frame.width m.frame.height ≡ true
@@ -88,18 +73,52 @@ pub record Opening (m : Meaning) (s : Sheet) (out mid : List ℕ) : Type 0 where
   pub sheet : s ≡ sheet_at m 0
   pub output : mid ≡ put 0 (header m.frame.width m.frame.height) out
 
-pub opening : (m : Meaning) (f : Frame) (s : Sheet) (out mid : List ℕ) → f ≡ m.frame → in_limits f ≡ true
-    → sheet_length m.frame.width m.frame.height ≤ length out
-    → ◌≡◌ {A = Result Sheet Told} (Ok s) (open_answer f.width f.height (length out)) → mid ≡ opened f.width f.height out → Opening m s out mid
-opening m f s out mid q n l a o =
+-- opening a sheet of a film's size is only a matter of room
+size_of_film : (m : Meaning) (f : Frame) (w h room : ℕ) → f ≡ m.frame → w ≡ f.width → h ≡ f.height → sheet_sized m.frame.width m.frame.height ≡ true
+    → open_answer w h room ≡ cond (leb (sheet_length m.frame.width m.frame.height) room) (Ok (sheet_at m 0)) (Err (call 5))
+size_of_film m f w h room q ew eh s =
+    ap (λ k. open_answer k h room) (ew ∙ ap (λ k. k.width) q)
+    ∙ ap (λ k. open_answer m.frame.width k room) (eh ∙ ap (λ k. k.height) q)
+    ∙ ap (λ b. cond b (cond (leb (sheet_length m.frame.width m.frame.height) room) (Ok (sheet_at m 0)) (Err (call 5))) (Err (call 1))) s
+
+opened_by : (b : Bool) (s t : Sheet) → ◌≡◌ {A = Result Sheet Told} (Ok s) (cond b (Ok t) (Err (call 5))) → (b ≡ true) × (s ≡ t)
+opened_by true s t e = (refl, cc)
+opened_by false s t e = absurd (cc)
+
+refused_by : (b : Bool) (t : Told) (s : Sheet) → ◌≡◌ {A = Result Sheet Told} (Err t) (cond b (Ok s) (Err (call 5))) → (b ≡ false) × (t ≡ call 5)
+refused_by true t s e = absurd (cc)
+refused_by false t s e = (refl, cc)
+
+pub opening : (m : Meaning) (f : Frame) (w h : ℕ) (s : Sheet) (out mid : List ℕ) → f ≡ m.frame → in_limits f ≡ true → w ≡ f.width → h ≡ f.height
+    → ◌≡◌ {A = Result Sheet Told} (Ok s) (open_answer w h (length out)) → mid ≡ opened w h out → Opening m s out mid
+opening m f w h s out mid q n ew eh a o =
     let sized = ap (λ k. sheet_sized k.width k.height) (sym q) ∙ film_sized f n in
-    let b = a ∙ ap (λ k. open_answer k.width k.height (length out)) q ∙ opens m (length out) sized l in
+    let p = opened_by (leb (sheet_length m.frame.width m.frame.height) (length out)) s (sheet_at m 0) (a ∙ size_of_film m f w h (length out) q ew eh sized) in
     record {
       sized = sized;
-      room = l;
-      sheet = cc;
-      output = o ∙ ap (λ k. opened k.width k.height out) q
-          ∙ ap (λ v. cond v (put 0 (header m.frame.width m.frame.height) out) out) (and_from _ _ sized (le-leb _ _ l));
+      room = leb-true _ _ p.0;
+      sheet = p.1;
+      output = o ∙ ap (λ k. opened k h out) (ew ∙ ap (λ k. k.width) q) ∙ ap (λ k. opened m.frame.width k out) (eh ∙ ap (λ k. k.height) q)
+          ∙ ap (λ v. cond v (put 0 (header m.frame.width m.frame.height) out) out) (and_from _ _ sized p.0);
+    }
+
+-- a film whose sheet was not opened is refused, and the output is as it was
+pub record Unopened (m : Meaning) (t : Told) (out mid : List ℕ) : Type 0 where
+  pub answer : Err t ≡ film_answer m (length out)
+  pub output : mid ≡ film_output m out
+
+pub unopened : (m : Meaning) (f : Frame) (w h : ℕ) (t : Told) (out mid : List ℕ) → f ≡ m.frame → in_limits f ≡ true → w ≡ f.width → h ≡ f.height
+    → ◌≡◌ {A = Result Sheet Told} (Err t) (open_answer w h (length out)) → mid ≡ opened w h out → Unopened m t out mid
+unopened m f w h t out mid q n ew eh a o =
+    let sized = ap (λ k. sheet_sized k.width k.height) (sym q) ∙ film_sized f n in
+    let long = leb (sheet_length m.frame.width m.frame.height) (length out) in
+    let p = refused_by long t (sheet_at m 0) (a ∙ size_of_film m f w h (length out) q ew eh sized) in
+    record {
+      answer = ap Err p.1 ∙ sym (ap (λ b. cond b (Ok (sheet_length m.frame.width m.frame.height)) (Err (call 5))) p.0);
+      output = o ∙ ap (λ k. opened k h out) (ew ∙ ap (λ k. k.width) q) ∙ ap (λ k. opened m.frame.width k out) (eh ∙ ap (λ k. k.height) q)
+          ∙ ap (λ v. cond (sheet_sized m.frame.width m.frame.height && v) (put 0 (header m.frame.width m.frame.height) out) out) p.0
+          ∙ ap (λ v. cond (v && false) (put 0 (header m.frame.width m.frame.height) out) out) sized
+          ∙ sym (ap (λ b. cond b (put 0 (sheet_bytes m) out) out) p.0);
     }
 
 -- what holds between the rows

@@ -10,7 +10,7 @@ use Rattle.sheet.specs.Sheet.{Sheet, sheet_length}
 
 -- the sheet that the code holds
 abbrev pub sheet_of : OpenSheet → Sheet
-sheet_of s = record { width = s.width; height = s.height; written = s.written }
+sheet_of s = record { width = s.size.width; height = s.size.height; written = s.written }
 
 -- an answer of opening, with what its refusal tells
 abbrev pub told_sheet : Result OpenSheet SheetFault → Result Sheet Told

@@ -7,35 +7,33 @@ ghost use Rattle.sheet.specs.Made.{sheet_of, told_sheet, CloseAnswer};
 
 use crate::closed::{ClosedSheet, Unclosed};
 use crate::fault::SheetFault;
-use crate::header::{header_length, is_sized, put_header, row_length, whole_length};
+use crate::header::put_header;
 use crate::open::OpenSheet;
+use crate::size::Size;
+use film::bytes::row_length;
 use film::film::Film;
 
 impl OpenSheet {
-    // Opens a sheet of a width and a height, and writes its header to the front of the output.
-    pub fn open(width: u32, height: u32, out: &mut [u8]) -> Result<OpenSheet, SheetFault>
-        ensures answer { told_sheet result ≡ open_answer width height (length out.old) }
-        ensures output { out.new ≡ opened width height out.old }
+    // Opens a sheet of a size, and writes its header to the front of the output.
+    pub fn open(size: Size, out: &mut [u8]) -> Result<OpenSheet, SheetFault>
+        ensures answer { told_sheet result ≡ open_answer size.width size.height (length out.old) }
+        ensures output { out.new ≡ opened size.width size.height out.old }
     {
-        if !is_sized(width, height) {
+        if !size.is_allowed() {
             return Err(SheetFault::Limits);
         }
-        if out.len() < whole_length(width, height) {
+        if out.len() < size.whole_length() {
             return Err(SheetFault::Short);
         }
-        put_header(out, width, height);
-        Ok(OpenSheet {
-            width,
-            height,
-            written: 0,
-        })
+        put_header(out, size);
+        Ok(OpenSheet { size, written: 0 })
     }
 
     // The place of the next row in the output.
     fn row_place(&self) -> usize
         ensures is { result ≡ row_place (sheet_of self.now) }
     {
-        header_length(self.width, self.height) + self.written as usize * row_length(self.width)
+        self.size.header_length() + self.written as usize * row_length(self.size.width)
     }
 
     // Writes a row of a film as the next row of the sheet.
@@ -53,10 +51,10 @@ impl OpenSheet {
         if row >= n.height {
             return Err(SheetFault::Off);
         }
-        if out.len() < whole_length(self.width, self.height) {
+        if out.len() < self.size.whole_length() {
             return Err(SheetFault::Short);
         }
-        if n.width != self.width || self.written >= self.height {
+        if n.width != self.size.width || self.written >= self.size.height {
             return Err(SheetFault::Order);
         }
         let place = self.row_place();
@@ -69,16 +67,15 @@ impl OpenSheet {
     pub fn close(self) -> Result<ClosedSheet, Unclosed>
         ensures { CloseAnswer (sheet_of self) result }
     {
-        if self.written < self.height {
+        if self.written < self.size.height {
             return Err(Unclosed {
                 sheet: self,
                 fault: SheetFault::Order,
             });
         }
-        let length = whole_length(self.width, self.height);
+        let length = self.size.whole_length();
         let OpenSheet {
-            width: _,
-            height: _,
+            size: _,
             written: _,
         } = self;
         Ok(ClosedSheet { length })

@@ -3,7 +3,7 @@ use crate::fault::SheetFault;
 use crate::open::OpenSheet;
 
 // A sheet whose rows are all written. It takes no more: to write again, open another.
-#[derive(Clone, Copy)]
+#[derive(Clone, Copy, PartialEq, Eq, Debug)]
 pub struct ClosedSheet {
     // The bytes that the sheet takes in its output.
     pub length: usize,

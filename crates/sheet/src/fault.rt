@@ -1,5 +1,5 @@
 // Why a call on a sheet is refused.
-#[derive(Clone, Copy)]
+#[derive(Clone, Copy, PartialEq, Eq, Debug)]
 pub enum SheetFault {
     // The width or the height is outside its limits.
     Limits,

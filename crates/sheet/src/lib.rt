@@ -16,4 +16,5 @@ pub mod fault;
 pub mod header;
 pub mod laws;
 pub mod open;
+pub mod size;
 pub mod whole;

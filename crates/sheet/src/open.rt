@@ -2,11 +2,12 @@
 ghost use Rattle.std.specs.Prelude.{◌≡◌, ◌≤◌, true};
 ghost use Rattle.sheet.specs.Sheet.{sheet_sized};
 
+use crate::size::Size;
+
 pub struct OpenSheet {
-    pub(crate) width: u32,
-    pub(crate) height: u32,
+    pub(crate) size: Size,
     // The rows written so far.
     pub(crate) written: u32,
-    ghost sized: { sheet_sized width height ≡ true },
-    ghost within: { written ≤ height },
+    ghost sized: { sheet_sized size.width size.height ≡ true },
+    ghost within: { written ≤ size.height },
 }

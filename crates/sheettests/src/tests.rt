@@ -1,43 +1,47 @@
 use bitmap::bitmap::Bitmap;
 use film::film::Film;
+use film::grid::Grid;
+use film::span::Span;
 use piles::mirror::Mirror;
 use piles::negative::Negative;
+use runs::memory::RunMemory;
 use runs::run::Run;
 use runs::runfilm::RunFilm;
 use sheet::closed::Unclosed;
 use sheet::fault::SheetFault;
 use sheet::header::sheet_length;
 use sheet::open::OpenSheet;
+use sheet::size::Size;
 use sheet::whole::write_film;
 use std::alloc::Global;
 use std::process::Abort;
 use std::test::Fail;
 use testcard::card::draw_test_card;
 
-fn bitmap(heap: Global, width: u32, height: u32) -> Result<Bitmap, Fail> {
-    match Bitmap::new(vec![in heap; 0u8; 32]?, width, height, 2, 0, 0) {
-        Ok(film) => Ok(film),
-        Err(_) => Err(Fail::new("refused")),
+fn grid(width: u32, height: u32) -> Grid {
+    Grid {
+        width,
+        height,
+        pitch: 2,
+        ox: 0,
+        oy: 0,
     }
+}
+
+fn bitmap(heap: Global, width: u32, height: u32) -> Result<Bitmap, Fail> {
+    Bitmap::new(vec![in heap; 0u8; 32]?, grid(width, height)).map_err(|_| Fail::new("refused"))
 }
 
 fn run_film(heap: Global, width: u32, height: u32) -> Result<RunFilm, Fail> {
-    let slots = vec![in heap; Run { first: 0, end: 0 }; 100]?;
-    match RunFilm::new(vec![in heap; 0u32; 20]?, slots, width, height, 2, 0, 0) {
-        Ok(film) => Ok(film),
-        Err(_) => Err(Fail::new("refused")),
-    }
+    let memory = RunMemory {
+        counts: vec![in heap; 0u32; 20]?,
+        slots: vec![in heap; Run { first: 0, end: 0 }; 100]?,
+    };
+    RunFilm::new(memory, grid(width, height)).map_err(|_| Fail::new("refused"))
 }
 
-// The number that a refusal tells, and 0 for none.
-fn number<T: Drop>(answer: Result<T, SheetFault>) -> u8 {
-    match answer {
-        Ok(_) => 0,
-        Err(SheetFault::Limits) => 1,
-        Err(SheetFault::Off) => 4,
-        Err(SheetFault::Short) => 5,
-        Err(SheetFault::Order) => 6,
-    }
+fn span(row: u32, first: u32, end: u32) -> Span {
+    Span { row, first, end }
 }
 
 // A film's sheet is these bytes, in an output that is long enough and in no shorter one.
@@ -47,9 +51,12 @@ fn is_written<F: Film>(rt: &impl Abort, film: &F, sheet: &[u8]) -> Result<(), Fa
     if length < 1 || length >= 64 {
         return Err(Fail::new("not a sheet"));
     }
-    assert_eq!(rt; number(write_film(film, &mut out[0..length - 1])), 5);
+    assert_eq!(rt;
+        write_film(film, &mut out[0..length - 1]),
+        Err(SheetFault::Short)
+    );
     assert!(rt; out[0] == 0xAA);
-    assert_eq!(rt; write_film(film, out).ok(), Some(length));
+    assert_eq!(rt; write_film(film, out), Ok(length));
     assert_eq!(rt; &out[0..length], sheet);
     assert!(rt; out[length] == 0xAA);
     Ok(())
@@ -57,8 +64,8 @@ fn is_written<F: Film>(rt: &impl Abort, film: &F, sheet: &[u8]) -> Result<(), Fa
 
 // A square of four pixels in the middle of ten by ten, and its negative.
 fn square<F: Film + Drop>(rt: &impl Abort, mut film: F) -> Result<(), Fail> {
-    assert!(rt; film.write_span(4, 4, 6, true).is_ok());
-    assert!(rt; film.write_span(5, 4, 6, true).is_ok());
+    assert_eq!(rt; film.write_span(span(4, 4, 6), true), Ok(()));
+    assert_eq!(rt; film.write_span(span(5, 4, 6), true), Ok(()));
     is_written(
         rt,
         &film,
@@ -85,7 +92,7 @@ fn square_on_every_film(rt: HostRuntime) -> Result<(), Fail> {
 
 // Makes the first pixel of the top row dark.
 fn first<F: Film>(rt: &impl Abort, film: &mut F) {
-    assert!(rt; film.write_span(0, 0, 1, true).is_ok());
+    assert_eq!(rt; film.write_span(span(0, 0, 1), true), Ok(()));
 }
 
 // The first pixel of a row, and on a mirror the last.
@@ -119,7 +126,7 @@ fn lengths(rt: HostRuntime) {
         (30000, 30000, Some(112_500_015)),
     ];
     for (width, height, length) in cases {
-        assert_eq!(rt; sheet_length(width, height).ok(), length);
+        assert_eq!(rt; sheet_length(Size { width, height }).ok(), length);
     }
 }
 
@@ -127,13 +134,11 @@ fn lengths(rt: HostRuntime) {
 #[test]
 fn refused_openings(rt: HostRuntime) {
     let mut out = [7u8; 1];
-    match OpenSheet::open(0, 1, &mut out) {
-        Ok(_) => unreachable(),
-        Err(fault) => assert_eq!(rt; number::<()>(Err(fault)), 1),
-    }
-    match OpenSheet::open(1, 30001, &mut out) {
-        Ok(_) => unreachable(),
-        Err(fault) => assert_eq!(rt; number::<()>(Err(fault)), 1),
+    for (width, height) in [(0, 1), (1, 30001)] {
+        match OpenSheet::open(Size { width, height }, &mut out) {
+            Ok(_) => unreachable(),
+            Err(fault) => assert_eq!(rt; fault, SheetFault::Limits),
+        }
     }
     assert_eq!(rt; out[0], 7);
 }
@@ -145,28 +150,32 @@ fn one_row<F: Film, G: Film>(
     wide: &G,
     out: &mut [u8],
 ) -> Result<usize, Fail> {
-    let n = film.numbers();
-    let Ok(new) = OpenSheet::open(n.width, 1, out) else {
+    let size = Size {
+        width: film.numbers().width,
+        height: 1,
+    };
+    let Ok(new) = OpenSheet::open(size, out) else {
         return Err(Fail::new("refused"));
     };
     let Err(unclosed) = new.close() else {
         return Err(Fail::new("closed"));
     };
     let Unclosed { mut sheet, fault } = unclosed;
-    let early = number::<()>(Err(fault));
-    let off = number(sheet.write_row(wide, 1, &mut out[0..0]));
-    let short = number(sheet.write_row(wide, 0, &mut out[0..0]));
-    let other = number(sheet.write_row(wide, 0, out));
-    let written = number(sheet.write_row(film, 0, out));
-    let after = number(sheet.write_row(film, 0, out));
+    let off = sheet.write_row(wide, 1, &mut out[0..0]);
+    let short = sheet.write_row(wide, 0, &mut out[0..0]);
+    let other = sheet.write_row(wide, 0, out);
+    let written = sheet.write_row(film, 0, out);
+    let after = sheet.write_row(film, 0, out);
     let length = match sheet.close() {
         Ok(closed) => closed.length,
         Err(_) => unreachable(),
     };
-    assert_eq!(rt;
-        (early, off, short, other, written, after),
-        (6, 4, 5, 6, 0, 6)
-    );
+    assert_eq!(rt; fault, SheetFault::Order);
+    assert_eq!(rt; off, Err(SheetFault::Off));
+    assert_eq!(rt; short, Err(SheetFault::Short));
+    assert_eq!(rt; other, Err(SheetFault::Order));
+    assert_eq!(rt; written, Ok(()));
+    assert_eq!(rt; after, Err(SheetFault::Order));
     Ok(length)
 }
 

@@ -6,9 +6,8 @@ use lib.Signed.{le_z}
 use borrow.Author.Differences.{ints, up, down, product_is}
 use Rattle.std.specs.Int.{int_min, int_max}
 use Rattle.std.proofs.lemmas.Bool.{and_parts, or_cases, and_from, cases_eq, not-true, both_ways}
-use Rattle.std.proofs.lemmas.Int.{clamps}
+use Rattle.std.proofs.lemmas.Int.{clamps, unsigned_abs-mul}
 use Rattle.plane.specs.Plane.{At, spot, way, eq_z, same}
-use Rattle.plane.proofs.Sizes.{abs_neg, abs_mul}
 use Rattle.plane.proofs.Equal.{eq_z_refl}
 use Rattle.plane.proofs.Ring.{sq_le, sq_pos, norm_pos, mul_z_neg, mul_z_assoc, add_z_mul}
 use Rattle.shapes.specs.Box.{Encloses}
@@ -77,7 +76,7 @@ band_part r u v x t c n0 lo hi cr eq =
     let tp : t ≡ pos (nat_abs t) = omega (arith, ints) in
     let tn : nat_abs t ≤ n = pos_le t ((u *ℤ u) +ℤ (v *ℤ v)) (nat_abs t) n tp np hi in
     let cs : nat_abs c * nat_abs c ≤ (r * r) * n = pos_le (c *ℤ c) (pos (r * r) *ℤ ((u *ℤ u) +ℤ (v *ℤ v))) (nat_abs c * nat_abs c) ((r * r) * n) (sq_pos c) (ap (λ (z : ℤ). pos (r * r) *ℤ z) np) cr in
-    let qs : nat_abs (c *ℤ v) ≤ r * n = rw (abs_mul c v) (across_size (nat_abs c) (nat_abs v) r n cs (omega arith)) in
+    let qs : nat_abs (c *ℤ v) ≤ r * n = rw (unsigned_abs-mul c v) (across_size (nat_abs c) (nat_abs v) r n cs (omega arith)) in
     let e : pos n *ℤ x ≡ (pos (nat_abs t) *ℤ u) -ℤ (c *ℤ v) = ap (λ (z : ℤ). z *ℤ x) (sym np) ∙ (eq ∙ ap (λ (z : ℤ). (z *ℤ u) -ℤ (c *ℤ v)) tp) in
     (reach_up n (nat_abs t) r x u (c *ℤ v) n0 tn qs e, reach_down n (nat_abs t) r x u (c *ℤ v) n0 tn qs e)
 
@@ -85,7 +84,7 @@ pub sub_swap : (p q : ℤ) → q -ℤ p ≡ neg_ℤ (p -ℤ q)
 sub_swap p q = omega (arith, ints)
 
 pub sq_neg : (c : ℤ) → neg_ℤ c *ℤ neg_ℤ c ≡ c *ℤ c
-sq_neg c = sq_pos (neg_ℤ c) ∙ (ap (λ (t : ℕ). pos (t * t)) (abs_neg c) ∙ sym (sq_pos c))
+sq_neg c = let e : nat_abs (neg_ℤ c) ≡ nat_abs c = omega (arith, ints) in sq_pos (neg_ℤ c) ∙ (ap (λ (t : ℕ). pos (t * t)) e ∙ sym (sq_pos c))
 
 le_at : (a b c d : ℤ) → a ≡ b → c ≡ d → le_z b d ≡ true → le_z a c ≡ true
 le_at a b c d p q h = cc

@@ -1,194 +1,72 @@
-ghost use Rattle.std.specs.Prelude.{◌≡◌, ◌+◌, ◌*◌, ◌≤◌, max, ◌&&◌, ◌||◌, pos, ◌+ℤ◌, ◌-ℤ◌, ◌*ℤ◌, int_le, int_lt, unsigned_abs};
+ghost use Rattle.std.specs.Prelude.{◌≡◌, ◌+◌};
 ghost use Rattle.plane.specs.Plane.{way};
 ghost use Rattle.plane.specs.Points.{place_at, point_at, vector_at};
-ghost use Rattle.shapes.specs.Box.{Encloses, box_about};
-ghost use Rattle.strokes.specs.Arcs.{in_turn, in_sector, in_sweep, excess_of, is_close, in_ring, in_ring_of, in_arc, arc_at, root, reach_of, arc_box};
+ghost use Rattle.strokes.specs.Arcs.{in_turn, in_sector, in_sweep, in_ring, in_ring_of, arc_at, reach_of, arc_box};
 
-use crate::measures::{is_same, wide_product};
+use crate::measures::wide_product;
 use crate::strokes::ArcStroke;
 use plane::points::{Bounds, Half, Place, Point, Vector};
-use plane::vectors::{cross, norm, squared, way_to_place, way_to_point};
-use shapes::flash_shapes::in_circle;
+use shapes::flash_shapes::{box_about, in_circle};
+use shapes::reach::Reach;
 use shapes::shape::Shape;
-
-fn neither_below_0(a: i64, b: i64) -> bool
-    ensures { result ≡ (int_le (pos 0) a && int_le (pos 0) b) }
-{
-    a >= 0 && b >= 0
-}
-
-fn both_above_0(a: i64, b: i64) -> bool
-    ensures { result ≡ (int_lt (pos 0) a && int_lt (pos 0) b) }
-{
-    a > 0 && b > 0
-}
 
 fn in_turn(u: Vector, v: Vector, t: Vector) -> bool
     ensures { result ≡ in_turn (vector_at u) (vector_at v) (vector_at t) }
 {
-    if cross(u, v) >= 0 {
-        neither_below_0(cross(u, t), cross(t, v))
+    if u.cross(v) >= 0 {
+        u.cross(t) >= 0 && t.cross(v) >= 0
     } else {
-        !both_above_0(cross(v, t), cross(t, u))
+        !(v.cross(t) > 0 && t.cross(u) > 0)
     }
 }
 
 fn in_sector(c: Place, s: Place, e: Place, p: Point) -> bool
     ensures { result ≡ in_sector (place_at c) (place_at s) (place_at e) (point_at p) }
 {
-    is_same(s, e) || in_turn(way_to_place(c, s), way_to_place(c, e), way_to_point(c, p))
-}
-
-fn in_sweep(clockwise: bool, c: Place, s: Place, e: Place, p: Point) -> bool
-    ensures { result ≡ in_sweep clockwise (place_at c) (place_at s) (place_at e) (point_at p) }
-{
-    if clockwise {
-        in_sector(c, e, s, p)
-    } else {
-        in_sector(c, s, e, p)
-    }
-}
-
-fn less_both(m: i64, n: i64, hh: i64) -> i64
-    requires { (unsigned_abs m ≤ 8000000000000) × (unsigned_abs n ≤ 8000000000000) × (unsigned_abs hh ≤ 4000000000000) }
-    ensures { result ≡ (m -ℤ n) -ℤ hh }
-{
-    m - n - hh
-}
-
-fn excess(half: Half, n: i64, t: Vector) -> i64
-    requires { unsigned_abs n ≤ 8000000000000 }
-    ensures { result ≡ excess_of half.ticks n (vector_at t) }
-{
-    less_both(norm(t), n, squared(half))
-}
-
-fn four_times(hh: i64) -> i64
-    requires { unsigned_abs hh ≤ 4000000000000 }
-    ensures { result ≡ pos 4 *ℤ hh }
-{
-    4 * hh
-}
-
-fn is_close(half: Half, n: i64, k: i64) -> bool
-    ensures { result ≡ is_close half.ticks n k }
-{
-    wide_product(k, k) <= wide_product(four_times(squared(half)), n)
+    s == e || in_turn(c.way_to(s), c.way_to(e), c.way_to(p))
 }
 
 // the outer edge holds, and the inner
-fn edges_hold(hh: i64, n: i64, k: i64, close: bool) -> bool
-    ensures { result ≡ ((int_le k (pos 0) || close) && (int_le n hh || int_le (pos 0) k || close)) }
+#[tactic(auto, unfolding(crate::specs::Arcs::in_ring))]
+fn edges_hold(half: Half, n: i64, k: i64) -> bool
+    ensures { result ≡ in_ring half.ticks n k }
 {
+    let hh = half.squared();
+    let close = wide_product(k, k) <= wide_product(4 * hh, n);
     (k <= 0 || close) && (n <= hh || k >= 0 || close)
 }
 
-fn in_ring(half: Half, n: i64, k: i64) -> bool
-    ensures { result ≡ in_ring half.ticks n k }
-{
-    edges_hold(squared(half), n, k, is_close(half, n, k))
-}
-
-// the ring about c whose middle line goes through s
-fn in_ring_of(half: Half, c: Place, s: Place, p: Point) -> bool
-    ensures { result ≡ in_ring_of half.ticks (place_at c) (place_at s) (point_at p) }
-{
-    let n = norm(way_to_place(c, s));
-    in_ring(half, n, excess(half, n, way_to_point(c, p)))
-}
-
-fn in_arc(half: Half, clockwise: bool, c: Place, s: Place, e: Place, p: Point) -> bool
-    ensures { result ≡ in_arc half.ticks clockwise (place_at c) (place_at s) (place_at e) (point_at p) }
-{
-    half.ticks > 0
-        && (in_circle(half, way_to_point(s, p))
-            || in_circle(half, way_to_point(e, p))
-            || in_sweep(clockwise, c, s, e, p) && in_ring_of(half, c, s, p))
-}
-
-fn arc_covers(half: Half, clockwise: bool, c: Place, s: Place, e: Place, p: Point) -> bool
-    ensures { result ≡ arc_at half.ticks clockwise (place_at c) (place_at s) (place_at e) p.x p.y }
-{
-    in_arc(half, clockwise, c, s, e, p)
-}
-
-fn root_of(n: i64) -> u32
-    requires { unsigned_abs n ≤ 8000000000000 }
-    ensures value { result ≡ root (unsigned_abs n) }
-    ensures small { result ≤ 3000000 }
-{
-    n.unsigned_abs().isqrt() as u32
-}
-
-fn size(z: i64) -> u32
-    requires { unsigned_abs z ≤ 2000000 }
-    ensures value { result ≡ unsigned_abs z }
-    ensures small { result ≤ 3000000 }
-{
-    z.unsigned_abs() as u32
-}
-
-fn greater(a: u32, b: u32) -> u32
-    requires { (a ≤ 3000000) × (b ≤ 3000000) }
-    ensures value { result ≡ max a b }
-    ensures small { result ≤ 3000000 }
-{
-    if a < b { b } else { a }
-}
-
-fn reach(u: Vector, v: Vector) -> u32
-    ensures value { result ≡ reach_of (vector_at u) (vector_at v) }
-    ensures small { result ≤ 3000000 }
-{
-    greater(root_of(norm(u)), greater(size(v.x), size(v.y)))
-}
-
-fn grown(n: u32, by: Half) -> u32
-    requires { n ≤ 3000000 }
-    ensures value { result ≡ n + by.ticks }
-    ensures small { result ≤ 3005000 }
-{
-    n + by.ticks
-}
-
-fn lower(z: i32, n: u32) -> i32
-    requires { (unsigned_abs z ≤ 345000) × (n ≤ 3005000) }
-    ensures { result ≡ z -ℤ pos n }
-{
-    z - n as i32
-}
-
-fn higher(z: i32, n: u32) -> i32
-    requires { (unsigned_abs z ≤ 345000) × (n ≤ 3005000) }
-    ensures { result ≡ z +ℤ pos n }
-{
-    z + n as i32
-}
-
-fn box_around(c: Place, n: u32) -> Bounds
-    requires { n ≤ 3005000 }
-    ensures { result ≡ box_about (place_at c) n n }
-{
-    Bounds {
-        left: lower(c.x, n),
-        right: higher(c.x, n),
-        bottom: lower(c.y, n),
-        top: higher(c.y, n),
+impl ArcStroke {
+    fn in_sweep(&self, p: Point) -> bool
+        ensures { result ≡ in_sweep self.now.clockwise (place_at self.now.centre) (place_at self.now.start) (place_at self.now.end) (point_at p) }
+    {
+        if self.clockwise {
+            in_sector(self.centre, self.end, self.start, p)
+        } else {
+            in_sector(self.centre, self.start, self.end, p)
+        }
     }
-}
 
-fn arc_reach(half: Half, c: Place, s: Place, e: Place) -> u32
-    ensures value { result ≡ reach_of (way (place_at c) (place_at s)) (way (place_at c) (place_at e)) + half.ticks }
-    ensures small { result ≤ 3005000 }
-{
-    grown(reach(way_to_place(c, s), way_to_place(c, e)), half)
-}
+    // the ring about the centre whose middle line goes through the start
+    fn in_ring(&self, p: Point) -> bool
+        ensures { result ≡ in_ring_of self.now.half.ticks (place_at self.now.centre) (place_at self.now.start) (point_at p) }
+    {
+        let n = self.centre.way_to(self.start).norm();
+        let k = self.centre.way_to(p).norm() - n - self.half.squared();
+        edges_hold(self.half, n, k)
+    }
 
-fn arc_box(half: Half, clockwise: bool, c: Place, s: Place, e: Place) -> Bounds
-    ensures value { result ≡ arc_box half.ticks (place_at c) (place_at s) (place_at e) }
-    ensures law { Encloses (arc_at half.ticks clockwise (place_at c) (place_at s) (place_at e)) (arc_box half.ticks (place_at c) (place_at s) (place_at e)) }
-{
-    box_around(c, arc_reach(half, c, s, e))
+    // how far it comes from the centre on either axis
+    fn reach(&self) -> Reach
+        ensures { result.ticks ≡ reach_of (way (place_at self.now.centre) (place_at self.now.start)) (way (place_at self.now.centre) (place_at self.now.end)) + self.now.half.ticks }
+    {
+        let radius = self.centre.way_to(self.start).norm().unsigned_abs().isqrt();
+        let to_end = self.centre.way_to(self.end);
+        let middle = radius.max(to_end.x.unsigned_abs().max(to_end.y.unsigned_abs()));
+        Reach {
+            ticks: middle as u32 + self.half.ticks,
+        }
+    }
 }
 
 impl Shape for ArcStroke {
@@ -196,12 +74,16 @@ impl Shape for ArcStroke {
 
     ghost boxed = { λ s. arc_box s.half.ticks (place_at s.centre) (place_at s.start) (place_at s.end) };
 
+    #[tactic(auto, unfolding(crate::specs::Arcs::arc_at))]
     fn covers(&self, p: Point) -> bool {
-        let c = self.centre;
-        arc_covers(self.half, self.clockwise, c, self.start, self.end, p)
+        self.half.ticks > 0
+            && (in_circle(self.half, self.start.way_to(p))
+                || in_circle(self.half, self.end.way_to(p))
+                || self.in_sweep(p) && self.in_ring(p))
     }
 
     fn bounds(&self) -> Bounds {
-        arc_box(self.half, self.clockwise, self.centre, self.start, self.end)
+        let reach = self.reach();
+        box_about(self.centre, reach, reach)
     }
 }

@@ -1,7 +1,7 @@
 use plane::points::{Half, Place};
 
 /// A straight stroke.
-#[derive(Clone, Copy)]
+#[derive(Clone, Copy, PartialEq, Eq, Debug)]
 pub struct Stroke {
     pub start: Place,
     pub end: Place,
@@ -9,7 +9,7 @@ pub struct Stroke {
 }
 
 /// A stroke along an arc about `centre`.
-#[derive(Clone, Copy)]
+#[derive(Clone, Copy, PartialEq, Eq, Debug)]
 pub struct ArcStroke {
     pub centre: Place,
     pub start: Place,

@@ -17,6 +17,7 @@ mod methods;
 #[derive(Clone, Copy, PartialEq, Eq, Debug)]
 pub struct Full;
 
+// Fixed memory: the caller lends the slots, so that no heap is asked for; the first `len` of them hold the records.
 #[derive(Drop)]
 pub struct Table<'a, T> {
     slots: &'a mut [T],

@@ -5,14 +5,6 @@ ghost use Rattle.std.specs.List.{slice_get};
 
 use super::{Full, Table};
 
-// The record at `i` of the first `len` slots, if there is one.
-fn record_of<T: Copy>(slots: &[T], len: usize, i: usize) -> Option<T>
-    requires { len ≤ length slots.now }
-    ensures { result ≡ slice_get (take len slots.now) i }
-{
-    if i < len { Some(slots[i]) } else { None }
-}
-
 impl<'a, T: Copy> Table<'a, T> {
     // An empty table over the slots, for at most `limit` records.
     pub fn new(slots: &'a mut [T], limit: usize) -> Table<'a, T>
@@ -40,15 +32,14 @@ impl<'a, T: Copy> Table<'a, T> {
     pub fn get(&self, i: usize) -> Option<T>
         ensures { result ≡ slice_get (records self.now) i }
     {
-        record_of(self.slots, self.len, i)
+        self.as_slice().get(i).copied()
     }
 
     // The records, in the order in which they came.
     pub fn as_slice(&self) -> &[T]
         ensures { result.now ≡ records self.now }
     {
-        let slots: &[T] = self.slots;
-        &slots[..self.len]
+        &self.slots[..self.len]
     }
 
     // Whether no record more finds a place.
@@ -62,10 +53,10 @@ impl<'a, T: Copy> Table<'a, T> {
     pub fn push(&mut self, record: T) -> Result<usize, Full>
         ensures { Appended self.old «record» result self.new }
     {
-        let at = self.len;
-        if at >= self.limit || at >= self.slots.len() {
+        if self.is_full() {
             return Err(Full);
         }
+        let at = self.len;
         self.slots[at] = record;
         self.len = at + 1;
         Ok(at)

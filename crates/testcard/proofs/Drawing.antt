@@ -4,7 +4,7 @@ use Rattle.std.proofs.lemmas.Bool.{eq-eqb, ne_eqb, cases_eq}
 use Rattle.std.proofs.lemmas.Bool.Decides.{nat_tests}
 use Rattle.film.specs.Film.{Meaning}
 use Rattle.testcard.specs.Card.{card_pixel}
-use Rattle.testcard.specs.Drawn.{DrawnFrom, Covers, RowShows, Marked}
+use Rattle.testcard.specs.Drawn.{Covers, RowShows, Marked}
 
 either_way : (in_row p q old : Bool) → (in_row && q) || cond in_row p old ≡ cond in_row (p || q) old
 either_way true true true old = refl
@@ -14,15 +14,16 @@ either_way true false false old = refl
 either_way false p q old = refl
 
 -- a row that shows p, with a bar of q marked on it, shows both
-pub mark_more : {w : ℕ} {m n o : Meaning} {row first end : ℕ} {p q : ℕ → Bool} → RowShows m row p n → w ≡ m.frame.width → Covers w first end q
-    → Marked n row first end o → RowShows m row (λ c. p c || q c) o
-mark_more {m = m} {n = n} {row = row} {p = p} {q = q} s e b k = record {
+pub mark_more : {w : ℕ} {m n o : Meaning} {row at first end : ℕ} {p q : ℕ → Bool} → RowShows m row p n → w ≡ m.frame.width → at ≡ row → Covers w first end q
+    → Marked n at first end o → RowShows m row (λ c. p c || q c) o
+mark_more {m = m} {n = n} {row = row} {at = at} {p = p} {q = q} s e i b k = record {
   frame = k.frame ∙ s.frame;
   pixels = λ c r hc hr.
       let wide = ap (λ f. f.width) s.frame in
       let tall = ap (λ f. f.height) s.frame in
       k.pixels c r (omega arith) (omega arith)
-      ∙ ap (λ v. (eqb r row && v) || n.pixel c r) (b.same c (omega arith))
+      ∙ ap (λ v. (eqb r at && v) || n.pixel c r) (b.same c (omega arith))
+      ∙ ap (λ y. (eqb r y && q c) || n.pixel c r) i
       ∙ ap (λ v. (eqb r row && q c) || v) (s.pixels c r hc hr)
       ∙ either_way (eqb r row) (p c) (q c) (m.pixel c r);
 }
@@ -32,14 +33,6 @@ pub record Between (m : Meaning) (first row : ℕ) (n : Meaning) : Type 0 where
   pub frame : n.frame ≡ m.frame
   pub pixels : (c r : ℕ) → c < m.frame.width → r < m.frame.height
       → n.pixel c r ≡ cond (leb first r && ltb r row) (card_pixel m.frame.width m.frame.height c r) (m.pixel c r)
-
-nothing_yet : {A : Type 0} (first r : ℕ) (new old : A) → old ≡ cond (leb first r && ltb r first) new old
-nothing_yet first r new old =
-    let e : (leb first r && ltb r first) ≡ false = grind (arith, nat_tests) in
-    sym (ap (λ v. cond v new old) e)
-
-pub between_none : (m : Meaning) (first : ℕ) → Between m first first m
-between_none m first = record { frame = refl; pixels = λ c r hc hr. nothing_yet first r _ _ }
 
 pub between_more : {m n o : Meaning} {first row w h : ℕ} → first ≤ row → Between m first row n → w ≡ m.frame.width → h ≡ m.frame.height
     → RowShows n row (λ c. card_pixel w h c row) o → Between m first (row + 1) o
@@ -61,12 +54,4 @@ between_more {m = m} {n = n} {first = first} {row = row} {w = w} {h = h} le a ew
       now ∙ ap (λ v. cond v (card_pixel w h c row) (n.pixel c r)) (ne_eqb r row d) ∙ a.pixels c r hc hr
       ∙ ap (λ v. cond v card (m.pixel c r)) same)
       (cases_eq r row);
-}
-
-pub all_drawn : {m n : Meaning} {first row : ℕ} → Between m first row n → m.frame.height ≤ row → DrawnFrom m first n
-all_drawn {m = m} {first = first} {row = row} a h = record {
-  frame = a.frame;
-  pixels = λ c r hc hr.
-      let same : (leb first r && ltb r row) ≡ leb first r = grind (arith, nat_tests) in
-      a.pixels c r hc hr ∙ ap (λ v. cond v (card_pixel m.frame.width m.frame.height c r) (m.pixel c r)) same;
 }

@@ -1,75 +1,92 @@
-// The parts of the card in one row.
-ghost use Rattle.std.specs.Prelude.{◌+◌, ◌<◌, ◌≤◌, ◌||◌, ◌==◌, nat_eq};
+// The parts of the card in one row, each a span of it.
+ghost use Rattle.std.specs.Prelude.{◌≡◌, ◌+◌, ◌<◌, ◌||◌, ◌==◌, nat_eq};
 ghost use Rattle.testcard.specs.Card.{on_steps, on_arm, on_post};
 ghost use Rattle.testcard.specs.Drawn.{Covers};
 
-use crate::bar::Bar;
+use film::numbers::Numbers;
+use film::span::Span;
+
+// No pixel of a row.
+fn nothing(row: u32) -> Span
+    ensures { (result.row ≡ row) × ((result.first ≡ 0) × (result.end ≡ 0)) }
+{
+    Span {
+        row,
+        first: 0,
+        end: 0,
+    }
+}
 
 // The left edge, which is the whole row at the top and at the bottom.
-pub(crate) fn left_bar(width: u32, height: u32, row: u32) -> Bar
-    requires { (1 ≤ width) × (row < height) }
-    ensures { Covers width result.first result.end (λ c. (c == 0) || (row == 0 || row + 1 == height)) }
+pub(crate) fn left_bar(n: Numbers, row: u32) -> Span
+    requires { row < n.height }
+    ensures row { result.row ≡ row }
+    ensures covers { Covers n.width result.first result.end (λ c. (c == 0) || (row == 0 || row + 1 == n.height)) }
 {
-    if row == 0 || row == height - 1 {
-        return Bar {
-            first: 0,
-            end: width,
-        };
+    if row == 0 || row == n.height - 1 {
+        return n.whole_row(row);
     }
-    Bar { first: 0, end: 1 }
+    Span {
+        row,
+        first: 0,
+        end: 1,
+    }
 }
 
 // The right edge.
-pub(crate) fn right_bar(width: u32) -> Bar
-    requires { 1 ≤ width }
-    ensures { Covers width result.first result.end (λ c. nat_eq (c + 1) width) }
+pub(crate) fn right_bar(n: Numbers, row: u32) -> Span
+    ensures row { result.row ≡ row }
+    ensures covers { Covers n.width result.first result.end (λ c. nat_eq (c + 1) n.width) }
 {
-    Bar {
-        first: width - 1,
-        end: width,
+    Span {
+        row,
+        first: n.width - 1,
+        end: n.width,
     }
 }
 
 // The square of the steps.
-pub(crate) fn step_bar(width: u32, row: u32) -> Bar
-    ensures { Covers width result.first result.end (λ c. on_steps c row) }
+pub(crate) fn step_bar(n: Numbers, row: u32) -> Span
+    ensures row { result.row ≡ row }
+    ensures covers { Covers n.width result.first result.end (λ c. on_steps c row) }
 {
     let first = row / 8 * 8;
-    if first >= width {
-        return Bar { first: 0, end: 0 };
+    if first >= n.width {
+        return nothing(row);
     }
-    if width - first < 8 {
-        return Bar { first, end: width };
-    }
-    Bar {
+    Span {
+        row,
         first,
-        end: first + 8,
+        end: n.width.min(first + 8),
     }
 }
 
 // The arm of the cross.
-pub(crate) fn arm_bar(width: u32, height: u32, row: u32) -> Bar
-    ensures { Covers width result.first result.end (λ c. on_arm width height c row) }
+pub(crate) fn arm_bar(n: Numbers, row: u32) -> Span
+    ensures row { result.row ≡ row }
+    ensures covers { Covers n.width result.first result.end (λ c. on_arm n.width n.height c row) }
 {
-    if row != height / 2 {
-        return Bar { first: 0, end: 0 };
+    if row != n.height / 2 {
+        return nothing(row);
     }
-    Bar {
-        first: width / 4,
-        end: width - width / 4,
+    Span {
+        row,
+        first: n.width / 4,
+        end: n.width - n.width / 4,
     }
 }
 
 // The post of the cross.
-pub(crate) fn post_bar(width: u32, height: u32, row: u32) -> Bar
-    requires { 1 ≤ width }
-    ensures { Covers width result.first result.end (λ c. on_post width height c row) }
+pub(crate) fn post_bar(n: Numbers, row: u32) -> Span
+    ensures row { result.row ≡ row }
+    ensures covers { Covers n.width result.first result.end (λ c. on_post n.width n.height c row) }
 {
-    if row < height / 4 || row >= height - height / 4 {
-        return Bar { first: 0, end: 0 };
+    if row < n.height / 4 || row >= n.height - n.height / 4 {
+        return nothing(row);
     }
-    Bar {
-        first: width / 2,
-        end: width / 2 + 1,
+    Span {
+        row,
+        first: n.width / 2,
+        end: n.width / 2 + 1,
     }
 }

@@ -4,10 +4,10 @@ ghost use Rattle.film.specs.Made.{frame_of};
 ghost use Rattle.testcard.specs.Card.{card_pixel};
 ghost use Rattle.testcard.specs.Drawn.{CardDrawn, DrawnFrom, RowShows, Marked};
 
-use crate::bar::Bar;
 use crate::bars::{arm_bar, left_bar, post_bar, right_bar, step_bar};
 use film::film::Film;
 use film::numbers::Numbers;
+use film::span::Span;
 
 // Makes every pixel of a row clear.
 fn clear_row<F: Film>(film: &mut F, n: Numbers, row: u32)
@@ -16,17 +16,17 @@ fn clear_row<F: Film>(film: &mut F, n: Numbers, row: u32)
     ensures beside { F.beside film.new ≡ F.beside film.old }
 {
     // The row is on the film, so that this is not refused.
-    let _ = film.write_span(row, 0, n.width, false);
+    let _ = film.write_span(n.whole_row(row), false);
 }
 
 // Makes a bar of a row dark.
-fn mark<F: Film>(film: &mut F, row: u32, bar: Bar)
-    requires { (row < (F.meaning film.old).frame.height) × ((bar.first ≤ bar.end) × (bar.end ≤ (F.meaning film.old).frame.width)) }
-    ensures marked { Marked (F.meaning film.old) row bar.first bar.end (F.meaning film.new) }
+fn mark<F: Film>(film: &mut F, bar: Span)
+    requires { (bar.row < (F.meaning film.old).frame.height) × ((bar.first ≤ bar.end) × (bar.end ≤ (F.meaning film.old).frame.width)) }
+    ensures marked { Marked (F.meaning film.old) bar.row bar.first bar.end (F.meaning film.new) }
     ensures beside { F.beside film.new ≡ F.beside film.old }
 {
     // The bar is on the film, so that this is not refused.
-    let _ = film.write_span(row, bar.first, bar.end, true);
+    let _ = film.write_span(bar, true);
 }
 
 // Draws one row of the card.
@@ -36,11 +36,12 @@ fn draw_row<F: Film>(film: &mut F, n: Numbers, row: u32)
     ensures beside { F.beside film.new ≡ F.beside film.old }
 {
     clear_row(film, n, row);
-    mark(film, row, left_bar(n.width, n.height, row));
-    mark(film, row, right_bar(n.width));
-    mark(film, row, step_bar(n.width, row));
-    mark(film, row, arm_bar(n.width, n.height, row));
-    mark(film, row, post_bar(n.width, n.height, row));
+    // One bar a line: a list of them to go over would say no more.
+    mark(film, left_bar(n, row));
+    mark(film, right_bar(n, row));
+    mark(film, step_bar(n, row));
+    mark(film, arm_bar(n, row));
+    mark(film, post_bar(n, row));
 }
 
 // Draws the card's rows from one row down to the last.

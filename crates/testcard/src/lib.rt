@@ -8,6 +8,5 @@
 // cut-out gives a corner with dark and clear exchanged.
 #![tactic(auto)]
 
-mod bar;
 mod bars;
 pub mod card;

@@ -6,4 +6,4 @@ use Rattle.std.proofs.Common.{map, length, ◌∙◌}
 pub returns : goal.returns
 returns c k =
     c.weigh_first.ensures k
-    ∙ all_weighed (map seen_aperture c.args.apertures.now) (map seen_object c.args.objects.now) (length c.args.apertures.now) c.weighed_count.result k c.weighed_count.ensures
+    ∙ all_weighed (map seen_aperture c.args.apertures.now) (map seen_object c.args.objects.now) (length c.args.apertures.now) c.min.result k c.min.ensures

@@ -10,8 +10,8 @@ pub loop-object-preserved : goal.loop-object-preserved
 loop-object-preserved c =
     let d = depth_more c.args.done.now c.args.part.now c.loop-object.object-index c.object-item.result (omega arith) c.object-item.is in
     let l = laid_more c.args.done.now c.args.part.now c.loop-object.object-index c.object-item.result (omega arith) c.object-item.is in (
-      omega (arith, d, c.depth_by.ensures, c.max-depth.ensures, c.loop-object.invariant.0),
-      omega (arith, l, c.laid_by.ensures, c.saturating_add.ensures, c.min-laid.ensures, c.loop-object.invariant.1),
+      omega (arith, d, c.weight_by-weight.ensures.depth, c.max-depth.ensures, c.loop-object.invariant.0),
+      omega (arith, l, c.weight_by-weight.ensures.laid, c.saturating_add.ensures, c.min-laid.ensures, c.loop-object.invariant.1),
       omega arith,
     )
 

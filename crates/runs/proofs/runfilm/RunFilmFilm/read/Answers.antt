@@ -1,10 +1,13 @@
-use Rattle.std.proofs.Common.{arith}
-use Rattle.runs.specs.Slots.{row_slots}
-use Rattle.runs.proofs.Places.{row_room, moved_sound}
+use Rattle.std.proofs.Common.{vec_items, Ok, sym, ap, ◌∙◌}
+use Rattle.film.proofs.Spans.{read_on}
+use Rattle.runs.specs.Rows.{in_row}
+use Rattle.runs.specs.Slots.{run_meaning}
+use Rattle.runs.proofs.Meaning.{any_holds}
 use Rattle.runs.proofs.runfilm.RunFilmFilm.read.Goals as goal
 
-pub read_row-requires : goal.read_row-requires
-read_row-requires c =
+pub returns : goal.returns
+returns c =
     let f = c.args.self.now in
-    let m = row_room c.args.row f.numbers.height (row_slots f.numbers.width) (omega arith) in
-    record { ready = (moved_sound f.numbers.width c.args.row _ _ _ _ c.deref.ensures.value c.deref-2.ensures.value (f.sound c.args.row (omega arith)), (omega arith, omega arith)) }
+    let m = run_meaning (vec_items f.memory.counts) (vec_items f.memory.slots) f.numbers in
+    ap Ok (c.holds.ensures ∙ any_holds c.runs.result.now c.args.col ∙ ap (λ xs. in_row xs c.args.col) c.runs.ensures)
+    ∙ read_on m c.args.col c.args.row (sym c.if-not-has_pixel.ensures)

@@ -1,0 +1,6 @@
+use Rattle.std.proofs.Common.{rules}
+use Rattle.std.proofs.lemmas.Int.{to_z-of_z}
+use Rattle.shapes.proofs.flash_shapes.box_about.Goals as goal
+
+pub returns : goal.returns
+returns c = search (rules, to_z-of_z)
