@@ -6,7 +6,7 @@ use shapes::shape::Shape;
 use std::process::Abort;
 use strokes::strokes::{ArcStroke, Stroke};
 
-// a point, and whether it is covered
+// a point, and whether it is covered: a flag, since the point is there either way
 #[derive(Clone, Copy)]
 struct Case {
     x: i32,

@@ -155,6 +155,7 @@ fn format_digits(whole: u8, part: u8) -> Option<Format>
 fn format(rest: Rest<'_>) -> Option<Command<'_>>
     ensures { seen_option result ≡ format_of (left rest.entry) }
 {
+    // the pattern is the test, which `?` cannot make
     let [b'L', b'A', b'X', whole, part, b'Y', y_whole, y_part] = rest.part.text else {
         return None;
     };

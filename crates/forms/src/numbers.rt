@@ -15,7 +15,7 @@ fn is_numeral(b: u8) -> bool
     matches!(b, b'0'..=b'9' | b'+' | b'-' | b'.')
 }
 
-// How many digits, signs and points the text begins with.
+// How many digits, signs and points the text begins with: one line, as for gaps and contents in words.
 fn numeral_run(text: &[u8]) -> usize
     ensures value { result ≡ numeral_run text.now }
     ensures bound { result ≤ length text.now }

@@ -13,6 +13,7 @@ use numerals::{code_number, coordinate_value};
 fn comment(content: Rest<'_>) -> Option<Command<'_>>
     ensures { seen_option result ≡ comment_of (left content.entry) }
 {
+    // the pattern is the test, which `?` cannot make
     let [b'G', b'0', b'4', ..] = content.part.text else {
         return None;
     };

@@ -81,7 +81,7 @@ fn digit_run(text: &[u8]) -> usize
     text.iter().take_while(|b| b.is_ascii_digit()).count()
 }
 
-// The digits before and after a point.
+// The digits before and after a point: two parts of one text.
 #[derive(Clone, Copy)]
 struct Decimal<'a> {
     whole: &'a [u8],

@@ -45,6 +45,7 @@ pub struct Vector {
 }
 
 /// Where a block lays the points of a file: mirrored, then moved. `level` counts the blocks around.
+/// A flag for each axis, since each is mirrored or not whatever the other.
 #[derive(Clone, Copy, PartialEq, Eq, Debug)]
 pub struct Placing {
     pub mirror_x: bool,

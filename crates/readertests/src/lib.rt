@@ -22,7 +22,7 @@ mod tests {
         }
     }
 
-    // The commands that were taken before a refusal.
+    // The commands that were taken before a refusal. (A match, since each answer has its own count.)
     fn taken(file: &[u8]) -> usize {
         match count_commands(file) {
             Ok(count) => count,

@@ -85,7 +85,7 @@ impl<'a> Row<'a> {
         }
     }
 
-    // Writes the columns of a run, of a row of `width` columns.
+    // Writes the columns of a run, of a row of `width` columns, which a film's numbers have.
     fn write(&mut self, width: u32, run: Run, dark: bool)
         requires ready { (row_ok 0 width (held self.old) ≡ true) × (width ≤ 2 * length self.old.slots.now) }
         requires columns { (run.first ≤ run.end) × ((run.end ≤ width) × (width ≤ 60000)) }

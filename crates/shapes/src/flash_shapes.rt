@@ -101,6 +101,7 @@ impl Shape for Rectangle {
     }
 }
 
+// the box of an obround is that of its rectangle: one line in each
 impl Shape for Obround {
     ghost covered = { λ s. obround_at (place_at s.place) s.a.ticks s.b.ticks };
 

@@ -8,7 +8,7 @@ pub struct Stroke {
     pub half: Half,
 }
 
-/// A stroke along an arc about `centre`.
+/// A stroke along an arc about `centre`. Its sense is a flag, since it has the same parts either way.
 #[derive(Clone, Copy, PartialEq, Eq, Debug)]
 pub struct ArcStroke {
     pub centre: Place,

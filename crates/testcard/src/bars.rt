@@ -17,7 +17,8 @@ fn nothing(row: u32) -> Span
     }
 }
 
-// The left edge, which is the whole row at the top and at the bottom.
+// The left edge, which is the whole row at the top and at the bottom. (The one loop over the rows
+// keeps `row` below the height.)
 pub(crate) fn left_bar(n: Numbers, row: u32) -> Span
     requires { row < n.height }
     ensures row { result.row ≡ row }

@@ -62,7 +62,7 @@ fn is_content(b: u8) -> bool
     matches!(b, b' '..=b'~') && !matches!(b, b'*' | b'%')
 }
 
-// How many gap bytes the text begins with.
+// How many gap bytes the text begins with. (This and the next are one line each over their bytes.)
 fn gap_run(text: &[u8]) -> usize
     ensures value { result ≡ prefix_len is_gap text.now }
     ensures bound { result ≤ length text.now }
