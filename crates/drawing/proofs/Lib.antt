@@ -1,4 +1,2 @@
-pub mod Carried
-pub mod Takes
 pub mod Turned
 pub mod Whole

@@ -5,7 +5,7 @@ use Rattle.contour.specs.declared.pieces.Piece.{Piece}
 use Rattle.drawing.specs.Answers.{answer, answer_by, stored}
 use Rattle.drawing.specs.Books.{Books, Rooms, begin}
 use Rattle.drawing.specs.Reading.{Outcome, is_short, read_file, read_into, read_on, refused}
-use Rattle.drawing.specs.Taken.{Fresh, books_of}
+use Rattle.drawing.specs.Taken.{books_of}
 use Rattle.drawing.specs.Turns.{Running, from_start, refusal_of}
 use Rattle.drawing.specs.declared.fault.Drawing.{Drawing}
 use Rattle.records.specs.Records.{seen_aperture, seen_object, seen_piece}
@@ -18,6 +18,12 @@ use Rattle.table.proofs.Laws.{kept_slots}
 use Rattle.table.specs.Tables.{Kept, records, room}
 use Rattle.table.specs.declared.Table.{Table}
 use Rattle.words.specs.Words.{Told, fault}
+
+-- a table over the slots xs for at most n records, with none yet
+pub record Fresh {X : Type 0} (xs : List X) (n : ℕ) (t : Table X) : Type 0 where
+  pub empty : t.len ≡ 0
+  pub limit : t.limit ≡ n
+  pub same : t.slots.now ≡ xs
 
 no_records : {X Y : Type 0} (f : X → Y) {xs : List X} {n : ℕ} {t : Table X} → Fresh xs n t → map f (records t) ≡ []
 no_records f {t = t} h = ap (λ n. map f (take n t.slots.now)) h.empty
@@ -40,11 +46,11 @@ module _ (xs : List ℕ) (aps : List Aperture) (os : List Object) (ps : List Pie
   outcome = read_into xs (length aps) (length os) (length ps)
 
   -- a file that is too long
-  pub too_long : is_short xs ≡ false → refused (fault 7 0 0) begin ≡ outcome
+  pub too_long : false ≡ is_short xs → refused (fault 7 0 0) begin ≡ outcome
   unfolding read_file
-  too_long e = sym (cond-false (is_short xs) _ _ e)
+  too_long h = sym (cond-false (is_short xs) _ _ (sym h))
 
-  module _ (a : Table Aperture) (o : Table Object) (p : Table Piece) (fa : Fresh aps 128 a) (fo : Fresh os 4096 o) (fp : Fresh ps 8192 p) (e : is_short xs ≡ true) where
+  module _ (a : Table Aperture) (o : Table Object) (p : Table Piece) (fa : Fresh aps 128 a) (fo : Fresh os 4096 o) (fp : Fresh ps 8192 p) (h : true ≡ is_short xs) where
     at_once : from_start xs a o p ≡ outcome
     unfolding read_file
     at_once =
@@ -57,7 +63,7 @@ module _ (xs : List ℕ) (aps : List Aperture) (os : List Object) (ps : List Pie
         ∙ ap (λ l. F (R (min 128 (length aps)) (min 4096 (length os)) (min 8192 (length ps))) (B l (map seen_object (records o)) (map seen_piece (records p)))) (no_records seen_aperture fa)
         ∙ ap (λ l. F (R (min 128 (length aps)) (min 4096 (length os)) (min 8192 (length ps))) (B [] l (map seen_piece (records p)))) (no_records seen_object fo)
         ∙ ap (λ l. F (R (min 128 (length aps)) (min 4096 (length os)) (min 8192 (length ps))) (B [] [] l)) (no_records seen_piece fp)
-        ∙ sym (cond-true (is_short xs) _ _ e)
+        ∙ sym (cond-true (is_short xs) _ _ (sym h))
 
     module _ (r : Result ℕ DrawingFault) (b : Table Aperture) (q : Table Object) (t : Table Piece) (w : Running xs a o p r b q t) where
       apertures_are : map seen_aperture (records b) ≡ outcome.books.apertures

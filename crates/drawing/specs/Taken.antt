@@ -1,10 +1,11 @@
 -- What the three record tables hold, and what taking a record does to them.
-use Rattle.std.specs.Prelude.{◌≡◌, ℕ, List, map, Ok, Err, Result}
+use Rattle.std.specs.Prelude.{◌≡◌, ℕ, map, Ok, Err, Result}
 use Rattle.rules.specs.Numbers.{rule_number}
 use Rattle.rules.specs.declared.rule.Rule.TheVariants as rule
 use Rattle.rules.specs.declared.rule.Rule.{Rule}
 use Rattle.contour.specs.declared.pieces.Piece.{Piece}
 use Rattle.drawing.specs.Books.{Books, Rooms, Standing, stepped, taken}
+use Rattle.drawing.specs.declared.steps.Progress.{Progress}
 use Rattle.forms.specs.Orders.{Order}
 use Rattle.records.specs.Records.{seen_aperture, seen_object, seen_piece}
 use Rattle.records.specs.declared.kinds.Aperture.{Aperture}
@@ -35,12 +36,6 @@ pub record KeptAll (a : Table Aperture) (o : Table Object) (p : Table Piece) (b 
   pub objects : Kept o q
   pub pieces : Kept p t
 
--- A table over the slots xs for at most n records, with none yet.
-pub record Fresh {X : Type 0} (xs : List X) (n : ℕ) (t : Table X) : Type 0 where
-  pub empty : t.len ≡ 0
-  pub limit : t.limit ≡ n
-  pub same : t.slots.now ≡ xs
-
 -- A refusal leaves the records as they were.
 abbrev pub Stays : {X : Type 0} → Result X Rule → Books → Books → Type 0
 Stays (Ok x) old new = Unit {0}
@@ -62,9 +57,9 @@ pub record Taking (a : Table Aperture) (o : Table Object) (p : Table Piece) (n :
 abbrev pub standing : State → Table Aperture → Table Object → Table Piece → ℕ → Standing
 standing s a o p n = record { state = seen_state s; books = books_of a o p n }
 
--- What a command does to the tables, and answers: the next state and how many objects are laid then, or the rule.
-pub record Stepping (s : State) (a : Table Aperture) (o : Table Object) (p : Table Piece) (n : ℕ) (c : Order) (r : Result (State × ℕ) Rule)
+-- What a command does to the tables, and answers: where reading stands then, or the rule.
+pub record Stepping (g : Progress) (a : Table Aperture) (o : Table Object) (p : Table Piece) (c : Order) (r : Result Progress Rule)
     (b : Table Aperture) (q : Table Object) (t : Table Piece) : Type 0 where
   pub kept : KeptAll a o p b q t
-  pub value : results.result_map_both (λ x. standing x.0 b q t x.1) rule_number r ≡ stepped (rooms_of a o p) (standing s a o p n) c
-  pub stays : Stays r (books_of a o p n) (books_of b q t n)
+  pub value : results.result_map_both (λ h. standing h.state b q t h.laid) rule_number r ≡ stepped (rooms_of a o p) (standing g.state a o p g.laid) c
+  pub stays : Stays r (books_of a o p g.laid) (books_of b q t g.laid)

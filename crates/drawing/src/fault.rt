@@ -10,7 +10,7 @@ use rules::rule::Rule;
 use words::TextFault;
 
 /// Why a file is no drawing: a command cannot be read, or it breaks a rule.
-#[derive(Clone, Copy)]
+#[derive(Clone, Copy, PartialEq, Eq, Debug)]
 pub enum DrawingFault {
     Command(CommandFault),
     // `place` is the command's first content byte, `taken` the number of commands before it
@@ -39,7 +39,7 @@ impl From<TextFault> for DrawingFault {
 
 /// Why a file is not plotted: the film or the window refuses it, it is too long, or a command of it
 /// is refused.
-#[derive(Clone, Copy)]
+#[derive(Clone, Copy, PartialEq, Eq, Debug)]
 pub enum PlotFault {
     Film(FilmFault),
     TooLong,
@@ -63,7 +63,7 @@ impl From<FilmFault> for PlotFault {
 }
 
 /// How many records of each kind a file has, and how many objects they lay.
-#[derive(Clone, Copy)]
+#[derive(Clone, Copy, PartialEq, Eq, Debug)]
 pub struct Drawing {
     pub apertures: usize,
     pub objects: usize,

@@ -1,9 +1,9 @@
 // A whole file is read into the caller's slots.
 ghost use Rattle.drawing.specs.Answers.{answer, stored, told_plot};
-ghost use Rattle.drawing.specs.Reading.{is_short, read_into};
-ghost use Rattle.drawing.specs.Taken.{Fresh};
+ghost use Rattle.drawing.specs.Reading.{is_short};
+ghost use Rattle.drawing.specs.Slots.{SameSlots, read_in};
 ghost use Rattle.records.specs.Records.{seen_aperture, seen_object, seen_piece};
-ghost use Rattle.std.specs.Prelude.{◌≡◌, map, length};
+ghost use Rattle.std.specs.Prelude.{◌≡◌, map};
 
 use crate::fault::{Drawing, PlotFault};
 use crate::running::read_commands;
@@ -14,57 +14,48 @@ use table::Table;
 // How long a file may be.
 const LONGEST: usize = 1_048_576;
 
+// How many records of each kind a file may have.
+const MOST_APERTURES: usize = 128;
+
+const MOST_OBJECTS: usize = 4_096;
+
+const MOST_PIECES: usize = 8_192;
+
 fn is_short(file: &[u8]) -> bool
     ensures { result ≡ is_short file.now }
 {
     file.len() <= LONGEST
 }
 
-fn aperture_table(slots: &mut [Aperture]) -> Table<'_, Aperture>
-    ensures fresh { Fresh slots.old 128 result }
-    ensures lent { result.slots.ghost_name ≡ slots.entry.ghost_name }
-{
-    Table::new(slots, 128)
-}
-
-fn object_table(slots: &mut [Object]) -> Table<'_, Object>
-    ensures fresh { Fresh slots.old 4096 result }
-    ensures lent { result.slots.ghost_name ≡ slots.entry.ghost_name }
-{
-    Table::new(slots, 4096)
-}
-
-fn piece_table(slots: &mut [Piece]) -> Table<'_, Piece>
-    ensures fresh { Fresh slots.old 8192 result }
-    ensures lent { result.slots.ghost_name ≡ slots.entry.ghost_name }
-{
-    Table::new(slots, 8192)
+/// The slots that a caller lends for the records of a file.
+// fixed memory: the caller lends the slots, so that no heap is asked for
+#[derive(Drop)]
+pub struct Slots<'a> {
+    pub apertures: &'a mut [Aperture],
+    pub objects: &'a mut [Object],
+    pub pieces: &'a mut [Piece],
 }
 
 /// Reads a file: the records of its apertures, objects and contour pieces go into the front of the
 /// slots, and it answers how many there are of each and how many objects they lay.
-pub fn read_drawing(
-    file: &[u8],
-    apertures: &mut [Aperture],
-    objects: &mut [Object],
-    pieces: &mut [Piece],
-) -> Result<Drawing, PlotFault>
-    ensures answer { told_plot result ≡ answer (read_into file.now (length apertures.old) (length objects.old) (length pieces.old)) }
-    ensures apertures { map seen_aperture apertures.new ≡ stored (read_into file.now (length apertures.old) (length objects.old) (length pieces.old)).books.apertures (map seen_aperture apertures.old) }
-    ensures objects { map seen_object objects.new ≡ stored (read_into file.now (length apertures.old) (length objects.old) (length pieces.old)).books.objects (map seen_object objects.old) }
-    ensures pieces { map seen_piece pieces.new ≡ stored (read_into file.now (length apertures.old) (length objects.old) (length pieces.old)).books.pieces (map seen_piece pieces.old) }
+pub fn read_drawing(file: &[u8], slots: &mut Slots<'_>) -> Result<Drawing, PlotFault>
+    ensures answer { told_plot result ≡ answer (read_in slots.old file.now) }
+    ensures apertures { map seen_aperture slots.new.apertures.now ≡ stored (read_in slots.old file.now).books.apertures (map seen_aperture slots.old.apertures.now) }
+    ensures objects { map seen_object slots.new.objects.now ≡ stored (read_in slots.old file.now).books.objects (map seen_object slots.old.objects.now) }
+    ensures pieces { map seen_piece slots.new.pieces.now ≡ stored (read_in slots.old file.now).books.pieces (map seen_piece slots.old.pieces.now) }
+    ensures lent { SameSlots slots.old slots.new }
 {
     if !is_short(file) {
         return Err(PlotFault::TooLong);
     }
-    let mut a = aperture_table(apertures);
-    let mut o = object_table(objects);
-    let mut p = piece_table(pieces);
-    let laid = read_commands(file, &mut a, &mut o, &mut p)?;
+    let mut apertures = Table::new(slots.apertures, MOST_APERTURES);
+    let mut objects = Table::new(slots.objects, MOST_OBJECTS);
+    let mut pieces = Table::new(slots.pieces, MOST_PIECES);
+    let laid = read_commands(file, &mut apertures, &mut objects, &mut pieces)?;
     Ok(Drawing {
-        apertures: a.len(),
-        objects: o.len(),
-        pieces: p.len(),
+        apertures: apertures.len(),
+        objects: objects.len(),
+        pieces: pieces.len(),
         laid,
     })
 }

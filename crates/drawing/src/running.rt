@@ -1,126 +1,18 @@
 // The commands of a file are read and carried out, one after another, up to M02.
-ghost use Rattle.std.specs.Prelude.{◌≡◌, ◌+◌, ◌<◌, ◌≤◌, false, length, Ok};
-ghost use Rattle.commands.specs.Files.{Goes, command_at, is_end, seen_read};
-ghost use Rattle.drawing.specs.Faults.{told_drawing};
-ghost use Rattle.drawing.specs.Turns.{Running, Turning, behind};
-ghost use Rattle.forms.specs.Orders.{seen_command};
-ghost use Rattle.words.specs.Words.{closing, onward};
-ghost use Rattle.rules.specs.Rules as rulebook;
-ghost use Rattle.rules.specs.States.{seen_state};
+ghost use Rattle.drawing.specs.Turns.{Running};
 
 use crate::fault::DrawingFault;
-use crate::steps::step;
-use commands::{CommandFault, Read, next_command};
+use crate::steps::Progress;
+use commands::next_command;
 use contour::pieces::Piece;
-use forms::{Command, Format};
 use records::kinds::{Aperture, Object};
-use rules::state::State;
 use table::Table;
-use words::close;
+use words::Cursor;
 
-// How far reading has come.
-#[derive(Clone, Copy)]
-struct Progress {
-    state: State,
-    laid: u32,
-    // behind the last command, and how many were taken
-    at: usize,
-    taken: usize,
-    // the last command was M02
-    last: bool,
-}
-
-// The next command.
-fn command_at<'a>(
-    file: &'a [u8],
-    at: usize,
-    taken: usize,
-    format: Option<Format>,
-) -> Result<Read<'a>, CommandFault>
-    ensures value { seen_read result ≡ command_at taken file.now at format }
-    ensures goes { Goes at (length file.now) result }
-{
-    next_command(file, at, taken, format)
-}
-
-fn is_end(command: Command<'_>) -> bool
-    ensures { result ≡ is_end (seen_command command.entry) }
-{
-    match command {
-        Command::EndOfFile => true,
-        _ => false,
-    }
-}
-
-fn begin() -> Progress
-    ensures state { seen_state result.state ≡ rulebook.start }
-    ensures laid { result.laid ≡ 0 }
-    ensures at { result.at ≡ 0 }
-    ensures taken { result.taken ≡ 0 }
-    ensures last { result.last ≡ false }
-{
-    Progress {
-        state: State::start(),
-        laid: 0,
-        at: 0,
-        taken: 0,
-        last: false,
-    }
-}
-
-// How far it has come behind a command that was carried out, `taken` having been taken before it.
-fn behind(read: Read<'_>, taken: usize, state: State, laid: u32) -> Progress
-    requires { taken < read.next }
-    ensures { result ≡ behind (seen_command read.entry.command) read.entry.next taken state laid }
-{
-    Progress {
-        state,
-        laid,
-        at: read.next,
-        taken: taken + 1,
-        last: is_end(read.command),
-    }
-}
-
-// Reads one command and carries it out.
-fn turn(
-    file: &[u8],
-    progress: Progress,
-    apertures: &mut Table<'_, Aperture>,
-    objects: &mut Table<'_, Object>,
-    pieces: &mut Table<'_, Piece>,
-) -> Result<Progress, DrawingFault>
-    requires { progress.taken ≤ progress.at }
-    ensures { Turning file.now progress apertures.old objects.old pieces.old result apertures.new objects.new pieces.new }
-{
-    let Progress {
-        state,
-        laid,
-        at,
-        taken,
-        ..
-    } = progress;
-    let read = command_at(file, at, taken, state.format)?;
-    match step(state, apertures, objects, pieces, laid, read.command) {
-        Ok((next, after)) => Ok(behind(read, taken, next, after)),
-        Err(rule) => Err(DrawingFault::Broken {
-            rule,
-            place: read.place,
-            taken,
-        }),
-    }
-}
-
-// Sees that nothing is left behind M02, and answers how many objects are laid.
-fn finish(file: &[u8], progress: Progress) -> Result<u32, DrawingFault>
-    ensures { told_drawing result ≡ onward (closing progress.taken file.now progress.at) (λ _. Ok progress.laid) }
-{
-    close(file, progress.at, progress.taken)?;
-    Ok(progress.laid)
-}
-
-/// Reads a file from its start and answers how many objects it lays.
-pub fn read_commands(
+// Reads a file from its start and answers how many objects it lays.
+// The tables stand apart, here and in what is called: of a struct that owns the three, the proof does not
+// know what the lent slots hold at its end.
+pub(crate) fn read_commands(
     file: &[u8],
     apertures: &mut Table<'_, Aperture>,
     objects: &mut Table<'_, Object>,
@@ -128,9 +20,26 @@ pub fn read_commands(
 ) -> Result<u32, DrawingFault>
     ensures { Running file.now apertures.old objects.old pieces.old result apertures.new objects.new pieces.new }
 {
-    let mut progress = begin();
-    while !progress.last {
-        progress = turn(file, progress, apertures, objects, pieces)?;
+    let mut cursor = Cursor::start(file);
+    let mut progress = Progress::start();
+    // a loop and no iterator: it ends behind M02, and each turn reads by the format of the last
+    loop {
+        let read = next_command(cursor, progress.state.format)?;
+        // no `map_err`: of what a closure answers the loop's proof does not see which rule it was
+        match progress.step(apertures, objects, pieces, read.command) {
+            Ok(next) => progress = next,
+            Err(rule) => {
+                return Err(DrawingFault::Broken {
+                    rule,
+                    place: read.place,
+                    taken: cursor.taken,
+                });
+            }
+        }
+        cursor = cursor.behind(read.next);
+        if read.is_end() {
+            cursor.close()?;
+            return Ok(progress.laid);
+        }
     }
-    finish(file, progress)
 }

@@ -18,10 +18,7 @@ use table::{Full, Table};
 fn placed(answer: Result<usize, Full>, laid: u32) -> Result<u32, Rule>
     ensures { result ≡ placed_by answer laid }
 {
-    match answer {
-        Ok(_) => Ok(laid),
-        Err(_) => Err(Rule::Full),
-    }
+    answer.map(|_| laid).map_err(|_| Rule::Full)
 }
 
 // Takes an object, if there is room and it is neither too deep nor too much.
@@ -37,14 +34,12 @@ fn take_object(
         return Err(Rule::Full);
     }
     let weight = weigh(object.outline, apertures.as_slice(), objects.as_slice());
-    let Some(after) = laid_after(laid, object.owner, weight) else {
-        return Err(Rule::Weight);
-    };
+    let after = laid_after(laid, object.owner, weight).ok_or(Rule::Weight)?;
     placed(objects.push(object), after)
 }
 
-/// Takes the record of an effect into its table and answers how many objects are laid then.
-pub fn take(
+// Takes the record of an effect into its table and answers how many objects are laid then.
+pub(crate) fn take(
     apertures: &mut Table<'_, Aperture>,
     objects: &mut Table<'_, Object>,
     pieces: &mut Table<'_, Piece>,

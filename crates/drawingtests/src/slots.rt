@@ -1,5 +1,5 @@
 // What the caller's slots hold after a reading.
-use crate::reading::{HEAD, counts, make_slots, told, with_head};
+use crate::reading::{HEAD, Memory, with_head};
 use records::kinds::{Figure, Outline, Owner};
 use std::test::Fail;
 
@@ -21,8 +21,8 @@ fn slots_of_none_one_and_enough(rt: HostRuntime) -> Result<(), Fail> {
         ((128, 4096, 8192), (0, 3, 3)),
     ];
     for ((a, o, p), expected) in cases {
-        let mut s = make_slots(rt.alloc(), a, o, p)?;
-        assert_eq!(rt; told(file.as_slice(), &mut s), expected);
+        let mut memory = Memory::new(rt.alloc(), a, o, p)?;
+        assert_eq!(rt; memory.told(file.as_bytes()), expected);
     }
     Ok(())
 }
@@ -31,34 +31,36 @@ fn slots_of_none_one_and_enough(rt: HostRuntime) -> Result<(), Fail> {
 #[test]
 fn records_before_a_refusal_stay(rt: HostRuntime) -> Result<(), Fail> {
     let file = with_head(rt.alloc(), "D10*X0Y0D03*%ABD20*%X5000Y5000D03*D99*")?;
-    let mut s = make_slots(rt.alloc(), 6, 4, 2)?;
-    assert_eq!(rt; told(file.as_slice(), &mut s), (23, 97, 9));
-    assert!(rt; s.apertures.len() == 6 && s.objects.len() == 4 && s.pieces.len() == 2);
-    assert_eq!(rt; s.apertures[0].code, 10);
-    assert_eq!(rt; s.apertures[3].code, 20);
-    assert!(rt; matches!(s.apertures[3].figure, Figure::Block { first: 1 }));
-    assert_eq!(rt; s.apertures[4].code, 7);
-    assert!(rt; matches!(s.objects[0].owner, Owner::Layer));
-    assert!(rt; matches!(s.objects[1].owner, Owner::Block(3)));
-    assert!(rt; matches!(s.objects[2].owner, Owner::Block(777)));
-    assert_eq!(rt; s.pieces[0].end.x, 77);
+    let mut memory = Memory::new(rt.alloc(), 6, 4, 2)?;
+    assert_eq!(rt; memory.told(file.as_bytes()), (23, 97, 9));
+    assert!(rt;
+        memory.apertures.len() == 6 && memory.objects.len() == 4 && memory.pieces.len() == 2
+    );
+    assert_eq!(rt; memory.apertures[0].code, 10);
+    assert_eq!(rt; memory.apertures[3].code, 20);
+    assert!(rt; matches!(memory.apertures[3].figure, Figure::Block { first: 1 }));
+    assert_eq!(rt; memory.apertures[4].code, 7);
+    assert!(rt; matches!(memory.objects[0].owner, Owner::Layer));
+    assert!(rt; matches!(memory.objects[1].owner, Owner::Block(3)));
+    assert!(rt; matches!(memory.objects[2].owner, Owner::Block(777)));
+    assert_eq!(rt; memory.pieces[0].end.x, 77);
     Ok(())
 }
 
 // A file that is too long is refused before its first byte is looked at, and takes nothing.
 #[test]
 fn a_file_too_long(rt: HostRuntime) -> Result<(), Fail> {
-    let mut file = with_head(rt.alloc(), "M02*")?;
-    file.resize(1_048_576, 10)?;
-    let mut s = make_slots(rt.alloc(), 128, 1, 1)?;
-    assert_eq!(rt; told(file.as_slice(), &mut s), (0, 0, 0));
-    file.push(10)?;
-    let mut t = make_slots(rt.alloc(), 128, 1, 1)?;
-    assert_eq!(rt; told(file.as_slice(), &mut t), (7, 0, 0));
+    let mut file = with_head(rt.alloc(), "M02*")?.into_bytes();
+    file.resize(1_048_576, b'\n')?;
+    let mut memory = Memory::new(rt.alloc(), 128, 1, 1)?;
+    assert_eq!(rt; memory.told(file.as_slice()), (0, 0, 0));
+    file.push(b'\n')?;
+    let mut t = Memory::new(rt.alloc(), 128, 1, 1)?;
+    assert_eq!(rt; t.told(file.as_slice()), (7, 0, 0));
     assert!(rt; t.apertures.len() == 128);
     assert_eq!(rt; t.apertures[0].code, 7);
     let bad = vec![in rt.alloc(); 0u8; 1_048_577]?;
-    assert_eq!(rt; told(bad.as_slice(), &mut t), (7, 0, 0));
+    assert_eq!(rt; t.told(bad.as_slice()), (7, 0, 0));
     Ok(())
 }
 
@@ -68,19 +70,19 @@ fn owners_and_numbers(rt: HostRuntime) -> Result<(), Fail> {
     let body =
         "%ABD20*%D10*X0Y0D03*%AB*%%SRX2Y3I1J2*%D20*%LMXY*%X10000Y0D03*%SR*%%LPC*%D11*X0Y0D03*M02*";
     let file = with_head(rt.alloc(), body)?;
-    let mut s = make_slots(rt.alloc(), 8, 8, 8)?;
-    let d = counts(file.as_slice(), &mut s).ok_or("refused")?;
+    let mut memory = Memory::new(rt.alloc(), 8, 8, 8)?;
+    let d = memory.read(file.as_bytes()).ok().ok_or("refused")?;
     assert_eq!(rt; (d.apertures, d.objects, d.pieces, d.laid), (4, 3, 0, 7));
-    assert!(rt; s.objects.len() == 8);
-    assert!(rt; matches!(s.objects[0].owner, Owner::Block(3)));
-    match s.objects[1].owner {
+    assert!(rt; memory.objects.len() == 8);
+    assert!(rt; matches!(memory.objects[0].owner, Owner::Block(3)));
+    match memory.objects[1].owner {
         Owner::Repeat(r) => {
             assert_eq!(rt; (r.first, r.columns, r.rows), (1, 2, 3));
             assert_eq!(rt; (r.step_x, r.step_y), (200, 400));
         }
         _ => return Err(Fail::new("no step and repeat")),
     }
-    match s.objects[1].outline {
+    match memory.objects[1].outline {
         Outline::Block { number, at, mirror } => {
             assert_eq!(rt; (number, at.x, at.y), (3, 200, 0));
             assert!(rt; mirror.x && mirror.y);

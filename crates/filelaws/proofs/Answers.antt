@@ -1,21 +1,12 @@
 -- Answers: what a good one came from, and what a command comes to.
-use Rattle.std.proofs.Common.{◌≡◌, ℕ, Some, None, Ok, Err, Result, refl, arith}
+use Rattle.std.proofs.Common.{◌≡◌, ℕ, Ok, Err, Result, refl}
 use Rattle.drawing.specs.Books.{Books, Rooms, Standing, taken}
 use Rattle.rules.specs.States.{EffectSeen, StateSeen}
 use Rattle.words.specs.Words.{onward}
 
-pub never_ok : {A E : Type 0} (e : E) (x : A) → ◌≡◌ {A = Result A E} (Err e) (Ok x) → ⊥
-never_ok e x h = let z : ◌≡◌ {A = ℕ} 0 1 = cc in omega arith
-
-pub same_ok : {A E : Type 0} (x y : A) → ◌≡◌ {A = Result A E} (Ok x) (Ok y) → x ≡ y
-same_ok x y h = cc
-
 pub onward_ok : {A B E : Type 0} (r : Result A E) (f : A → Result B E) (y : B) → onward r f ≡ Ok y → (x : A) × (r ≡ Ok x) × (f x ≡ Ok y)
 onward_ok (Ok x) f y h = (x, refl, h)
-onward_ok (Err e) f y h = absurd (never_ok e y h)
-
-pub never-some : {A : Type 0} (x : A) → None ≡ Some x → ⊥
-never-some x h = let z : ◌≡◌ {A = ℕ} 0 1 = cc in omega arith
+onward_ok (Err e) f y h = absurd (cc)
 
 -- where reading stands once the tables have taken what was decided
 abbrev pub entered : Rooms → Books → StateSeen × EffectSeen → Result Standing ℕ

@@ -2,7 +2,6 @@
 use Rattle.std.proofs.Common.{◌≡◌, ℕ, true, List, [], ◌∷◌, Some, Ok, refl, ap, ◌∙◌}
 use Rattle.commands.specs.Files.{is_end}
 use Rattle.drawing.specs.Books.{Rooms, Standing}
-use Rattle.filelaws.proofs.Answers.{never-some}
 use Rattle.filelaws.proofs.Runs.{Runs, accepted_runs, last, more}
 use Rattle.filelaws.specs.Laws.{EndsAtM02, RecordsByCommands, last_order, obey_all}
 use Rattle.forms.specs.Orders as order
@@ -46,7 +45,7 @@ end_is (order.move x y) e = absurd (false≢true e)
 end_is (order.flash x y) e = absurd (false≢true e)
 
 last_more : (o : Order) (os : List Order) (x : Order) → last_order os ≡ Some x → last_order (o ∷ os) ≡ Some x
-last_more o [] x e = absurd (never-some x e)
+last_more o [] x e = absurd (cc)
 last_more o (p ∷ os) x e = e
 
 -- the last command of a reading is M02

@@ -2,7 +2,6 @@
 use Rattle.std.proofs.Common.{◌≡◌, ℕ, ◌+◌, ◌-◌, ◌≤◌, true, List, ◌++◌, length, take, drop, Ok, sym, ap, ◌∙◌, subst, arith}
 use Rattle.commands.specs.Files.{ReadSeen, command_at, is_end}
 use Rattle.drawing.specs.Books.{Rooms, Standing, begin, stepped}
-use Rattle.filelaws.proofs.Answers.{same_ok}
 use Rattle.filelaws.proofs.Longer.{command_same}
 use Rattle.filelaws.proofs.Runs.{Runs, accepted_runs, last, more}
 use Rattle.filelaws.specs.Laws.{CutIsRefused, orders_of}
@@ -23,7 +22,7 @@ gap_from xs i n h g =
 module _ (room : Rooms) (ys zs : List ℕ) where
   -- the next command is the same in both files
   same_read : (k i : ℕ) (st : Standing) (r s : ReadSeen) → command_at k ys i st.state.format ≡ Ok r → command_at k (ys ++ zs) i st.state.format ≡ Ok s → s ≡ r
-  same_read k i st r s p q = same_ok s r (sym q ∙ (command_same ys zs k i st.state.format r p).0)
+  same_read k i st r s p q = let e = (command_same ys zs k i st.state.format r p).0 in cc
 
   -- readings of a file and of a longer one that are both accepted: what the longer one has more is a gap
   cut : {i k : ℕ} {st end : Standing} {os : List Order} → Runs room ys i k st os end → {es : List Order} {fin : Standing} → Runs room (ys ++ zs) i k st es fin → Gap (drop (length ys) (ys ++ zs))
@@ -33,7 +32,8 @@ module _ (room : Rooms) (ys zs : List ℕ) where
   cut (more {i} {k} {st} r p q b run) (last s v w e d) = absurd (both_ways (is_end r.order) b (ap (λ r. is_end r.order) (sym (same_read k i st r s p v)) ∙ e))
   cut (more {i} {k} {st} {next} r p q b run) (more {next = then} {end = fin} {os = es} s v w e rest) =
       let x = same_read k i st r s p v in
-      let y : then ≡ next = same_ok then next (sym w ∙ ap (λ r. stepped room st r.order) x ∙ q) in
+      let e = sym w ∙ ap (λ r. stepped room st r.order) x ∙ q in
+      let y : then ≡ next = cc in
       let there = subst (λ (s : ReadSeen). Runs room (ys ++ zs) s.next (k + 1) then es fin) x rest in
       cut run (subst (λ (t : Standing). Runs room (ys ++ zs) r.next (k + 1) t es fin) y there)
 

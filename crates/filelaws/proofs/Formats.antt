@@ -1,8 +1,8 @@
 -- The format in force behind a command that was carried out.
-use Rattle.std.proofs.Common.{◌≡◌, ℕ, Bool, true, false, cond, List, length, IfOk, Ok, Err, Option, Result, sym, refl, ap, ◌∙◌}
+use Rattle.std.proofs.Common.{◌≡◌, ℕ, Bool, true, false, cond, List, length, IfOk, Ok, Err, Option, Result, refl, ◌∙◌}
 use Rattle.commands.specs.Files.{format_after}
 use Rattle.drawing.specs.Books.{Rooms, Standing, stepped, taken}
-use Rattle.filelaws.proofs.Answers.{onward_ok, same_ok}
+use Rattle.filelaws.proofs.Answers.{onward_ok}
 use Rattle.forms.specs.Orders as order
 use Rattle.forms.specs.Orders.{Order}
 use Rattle.forms.specs.declared.Format.{Format}
@@ -83,5 +83,7 @@ unfolding stepped
 stepped_format room st o next e =
     let d = onward_ok (decided st.state st.books.apertures (length st.books.objects) (length st.books.pieces) o) _ next e in
     let b = onward_ok (taken room st.books d.0.1) _ next d.2 in
-    ap (λ n. n.state.format) (sym (same_ok _ next b.2))
+    let q = b.2 in
+    let e : next.state.format ≡ d.0.0.format = cc in
+    e
     ∙ had (format_after o st.state.format) _ d.0 d.1 (decided_format st.state st.books.apertures (length st.books.objects) (length st.books.pieces) o)

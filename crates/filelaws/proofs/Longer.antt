@@ -1,7 +1,7 @@
 -- A command that is read in a file is read in the file with more bytes behind it.
 use Rattle.std.proofs.Common.{◌≡◌, ℕ, suc, ◌+◌, ◌-◌, ◌<◌, ◌≤◌, Bool, true, false, cond, eqb, leb, List, [], ◌∷◌, ◌++◌, length, get_or, take, drop, Some, None, Ok, Err, Option, refl, ap, ◌∙◌, arith}
 use Rattle.commands.specs.Files.{ReadSeen, command_at, formed, longest_of}
-use Rattle.filelaws.proofs.Answers.{never_ok, onward_ok, same_ok}
+use Rattle.filelaws.proofs.Answers.{onward_ok}
 use Rattle.forms.specs.Forms.{form_of}
 use Rattle.forms.specs.Orders.{Order}
 use Rattle.forms.specs.declared.Format.{Format}
@@ -78,7 +78,7 @@ module _ (ys zs : List ℕ) where
   word_by : (k i : ℕ) (w : WordSeen) (a b : Bool) → leb (length ys) i ≡ a → eqb (get_or ys i 0) 37 ≡ b
       → cond a (Err (fault 11 (length ys) k)) (cond b (onward (star_after k ys (i + 1)) (extended_word k ys (i + 1))) (onward (star_after k ys i) (plain_word ys i))) ≡ Ok w
       → (word_from k (ys ++ zs) i ≡ Ok w) × (i < length ys) × (w.next ≤ length ys)
-  word_by k i w true b p q h = absurd (never_ok _ w h)
+  word_by k i w true b p q h = absurd (cc)
   word_by k i w false true p q h =
       let l : i < length ys = leb-false (length ys) i p in
       let o = onward_ok (star_after k ys (i + 1)) (extended_word k ys (i + 1)) w h in
@@ -101,7 +101,7 @@ module _ (ys zs : List ℕ) where
             ∙ plain_same i o.0 s
             ∙ o.2,
         l,
-        omega (arith, s.within, ap (λ w. w.next) (same_ok _ w o.2)),
+        (let q = o.2 in let e : o.0 + 1 ≡ w.next = cc in omega (arith, s.within)),
       )
 
   word_same : (k i : ℕ) (w : WordSeen) → next_word k ys i ≡ Ok w → (next_word k (ys ++ zs) i ≡ Ok w) × (w.next ≤ length ys)
@@ -111,8 +111,8 @@ module _ (ys zs : List ℕ) where
       (ap (word_from k (ys ++ zs)) m ∙ f.0, f.2)
 
   formed_next : (k : ℕ) (w : WordSeen) (o : Option Order) (r : ReadSeen) → formed k w o ≡ Ok r → w.next ≡ r.next
-  formed_next k w None r h = absurd (never_ok _ r h)
-  formed_next k w (Some o) r h = ap (λ r. r.next) (same_ok _ r h)
+  formed_next k w None r h = absurd (cc)
+  formed_next k w (Some o) r h = cc
 
   pub command_same : (k i : ℕ) (f : Option Format) (r : ReadSeen) → command_at k ys i f ≡ Ok r → (command_at k (ys ++ zs) i f ≡ Ok r) × (r.next ≤ length ys)
   unfolding command_at

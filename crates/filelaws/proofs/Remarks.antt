@@ -2,7 +2,7 @@
 use Rattle.std.proofs.Common.{◌≡◌, ℕ, Bool, true, false, cond, List, [], ◌∷◌, length, ℤ, Some, None, Ok, Option, sym, refl, ap, ◌∙◌}
 use Rattle.drawing.specs.Books.{Rooms, Standing, begin, stepped}
 use Rattle.drawing.specs.Reading.{Outcome, read_file}
-use Rattle.filelaws.proofs.Answers.{entered, never_ok, onward_ok, same_ok}
+use Rattle.filelaws.proofs.Answers.{entered, onward_ok}
 use Rattle.filelaws.proofs.Commands.{records_by_commands}
 use Rattle.filelaws.specs.Laws.{RemarksChangeNothing, bare, bare_option, essence, is_remark, obey_all, orders_of, placeless}
 use Rattle.forms.specs.Numbers.{Valued}
@@ -85,8 +85,8 @@ remark_obeyed s aps n m (order.flash x y) e = absurd (false≢true e)
 
 -- a command that may stand does what it does
 allowed : (b : Bool) (d : Decided) (x y : StateSeen × EffectSeen) → d ≡ Ok y → otherwise b 21 d ≡ Ok x → y ≡ x
-allowed true d x y p e = same_ok y x (sym p ∙ e)
-allowed false d x y p e = absurd (never_ok 21 x e)
+allowed true d x y p e = cc
+allowed false d x y p e = absurd (cc)
 
 -- a remark that may stand leaves everything as it is
 remark_stays : (room : Rooms) (st : Standing) (o : Order) (next : Standing) → is_remark o ≡ true → stepped room st o ≡ Ok next → next ≡ st
@@ -95,7 +95,7 @@ remark_stays room st o next b e =
     let d = onward_ok (decided st.state st.books.apertures (length st.books.objects) (length st.books.pieces) o) _ next e in
     let x = allowed (may_stand st.state o) _ d.0 (st.state, state.nothing) (remark_obeyed st.state st.books.apertures (length st.books.objects) (length st.books.pieces) o b) d.1 in
     let f : Ok st ≡ Ok next = ap (entered room st.books) x ∙ d.2 in
-    sym (same_ok st next f)
+    cc
 
 -- a first command, left out if it is a remark and else without places
 essence_by : (room : Rooms) (o : Order) (os : List Order) (st next end : Standing) (b : Bool) → is_remark o ≡ b → stepped room st o ≡ Ok next
@@ -117,4 +117,5 @@ remarks_change_nothing room xs ys p q e =
     let c = records_by_commands room xs p in
     let d = records_by_commands room ys q in
     let f : Ok c.0 ≡ Ok d.0 = sym (essence_obeyed room (orders_of xs) begin c.0 c.1.0) ∙ ap (obey_all room begin) e ∙ essence_obeyed room (orders_of ys) begin d.0 d.1.0 in
-    same_outcome (read_file room xs) (read_file room ys) (p ∙ sym q) (sym c.1.1 ∙ ap (λ s. s.books) (same_ok c.0 d.0 f) ∙ d.1.1)
+    let same : c.0 ≡ d.0 = cc in
+    same_outcome (read_file room xs) (read_file room ys) (p ∙ sym q) (sym c.1.1 ∙ ap (λ s. s.books) same ∙ d.1.1)

@@ -1,11 +1,12 @@
 // A job: a film, and a list of what is done on it, one line each.
-use crate::Stop;
-use crate::files::read_file;
 use crate::memory::SlotPlan;
 use crate::pile::{FilmPlan, Kind, PilePlan, expose_on};
-use crate::work::{NumberedStep, Step, Task, Teller, Work};
+use crate::work::{NumberedStep, Step, Steps};
+use film::grid::Grid;
 use film::window::Window;
 use std::alloc::AllocError;
+use terminal::files::read_file;
+use terminal::stop::{Stop, stop_with};
 
 // A line of a job by its form.
 #[derive(Clone, Copy)]
@@ -18,207 +19,124 @@ enum Line<'a> {
     Step(Step<'a>),
 }
 
-fn number(text: &str) -> Option<u32> {
-    text.parse::<u32>().ok()
-}
-
-fn signed(text: &str) -> Option<i32> {
-    text.parse::<i32>().ok()
-}
-
-fn count(text: &str) -> Option<usize> {
-    text.parse::<usize>().ok()
-}
-
-fn kind_of(text: &str) -> Option<Kind> {
-    match text {
-        "bitmap" => Some(Kind::Bitmap),
-        "runs" => Some(Kind::Runs),
-        _ => None,
-    }
-}
-
-fn film_line<'a>(words: &[&'a str]) -> Option<Line<'a>> {
-    let [k, w, h, p, x, y] = words else {
-        return None;
-    };
-    Some(Line::Film(FilmPlan {
-        kind: kind_of(k)?,
-        width: number(w)?,
-        height: number(h)?,
-        pitch: number(p)?,
-        ox: signed(x)?,
-        oy: signed(y)?,
-    }))
-}
-
-fn window_of(x: &str, y: &str, w: &str, h: &str) -> Option<Window> {
-    Some(Window {
-        x: number(x)?,
-        y: number(y)?,
-        width: number(w)?,
-        height: number(h)?,
-    })
-}
-
-fn cut_line<'a>(words: &[&'a str]) -> Option<Line<'a>> {
-    let [x, y, w, h] = words else {
-        return None;
-    };
-    Some(Line::Cut(window_of(x, y, w, h)?))
-}
-
-fn slots_line<'a>(words: &[&'a str]) -> Option<Line<'a>> {
-    let [a, o, p] = words else {
-        return None;
-    };
-    Some(Line::Slots(SlotPlan {
-        apertures: count(a)?,
-        objects: count(o)?,
-        pieces: count(p)?,
-        told: true,
-    }))
-}
-
-fn window_line<'a>(words: &[&'a str]) -> Option<Line<'a>> {
-    let [x, y, w, h, path] = words else {
-        return None;
-    };
-    Some(Line::Step(Step::Plot {
-        window: Some(window_of(x, y, w, h)?),
-        path,
-    }))
-}
-
-fn read_line<'a>(words: &[&'a str]) -> Option<Line<'a>> {
-    let [column, row] = words else {
-        return None;
-    };
-    Some(Line::Step(Step::Read {
-        column: number(column)?,
-        row: number(row)?,
-    }))
-}
-
-fn path_of<'a>(words: &[&'a str]) -> Option<&'a str> {
-    let [path] = words else {
-        return None;
-    };
-    Some(path)
-}
-
-fn alone<'a>(words: &[&'a str], line: Line<'a>) -> Option<Line<'a>> {
-    if words.is_empty() { Some(line) } else { None }
-}
-
-// The line that these words are.
-fn line_of<'a>(words: &[&'a str]) -> Option<Line<'a>> {
-    let [head, rest @ ..] = words else {
-        return None;
-    };
-    match *head {
-        "film" => film_line(rest),
-        "cut" => cut_line(rest),
-        "mirror" => alone(rest, Line::Mirror),
-        "negative" => alone(rest, Line::Negative),
-        "slots" => slots_line(rest),
-        "plot" => Some(Line::Step(Step::Plot {
-            window: None,
-            path: path_of(rest)?,
-        })),
-        "window" => window_line(rest),
-        "blank" => alone(rest, Line::Step(Step::Blank)),
-        "read" => read_line(rest),
-        "sheet" => Some(Line::Step(Step::Sheet(path_of(rest)?))),
-        _ => None,
-    }
-}
-
 // How far a job has come: lines of a later stage never come before those of an earlier one.
-fn stage(line: Line<'_>) -> u8 {
-    match line {
-        Line::Film(_) => 1,
-        Line::Cut(_) => 2,
-        Line::Mirror => 3,
-        Line::Negative => 4,
-        Line::Slots(_) => 5,
-        Line::Step(_) => 6,
+#[derive(Clone, Copy, PartialEq, Eq, PartialOrd, Ord)]
+enum Stage {
+    Film,
+    Cut,
+    Mirror,
+    Negative,
+    Slots,
+    Step,
+}
+
+impl<'a> Line<'a> {
+    // The line that these words are.
+    fn of(words: &[&'a str]) -> Option<Line<'a>> {
+        Some(match words {
+            ["film", kind, width, height, pitch, ox, oy] => Line::Film(FilmPlan {
+                kind: Kind::named(kind)?,
+                grid: Grid {
+                    width: width.parse().ok()?,
+                    height: height.parse().ok()?,
+                    pitch: pitch.parse().ok()?,
+                    ox: ox.parse().ok()?,
+                    oy: oy.parse().ok()?,
+                },
+            }),
+            ["cut", x, y, width, height] => Line::Cut(window_of([x, y, width, height])?),
+            ["mirror"] => Line::Mirror,
+            ["negative"] => Line::Negative,
+            ["slots", apertures, objects, pieces] => Line::Slots(SlotPlan {
+                apertures: apertures.parse().ok()?,
+                objects: objects.parse().ok()?,
+                pieces: pieces.parse().ok()?,
+            }),
+            ["plot", path] => Line::Step(Step::Plot { window: None, path }),
+            ["window", x, y, width, height, path] => Line::Step(Step::Plot {
+                window: Some(window_of([x, y, width, height])?),
+                path,
+            }),
+            ["blank"] => Line::Step(Step::Blank),
+            ["read", column, row] => Line::Step(Step::Read {
+                column: column.parse().ok()?,
+                row: row.parse().ok()?,
+            }),
+            ["sheet", path] => Line::Step(Step::Sheet(path)),
+            _ => return None,
+        })
+    }
+
+    fn stage(self) -> Stage {
+        match self {
+            Line::Film(_) => Stage::Film,
+            Line::Cut(_) => Stage::Cut,
+            Line::Mirror => Stage::Mirror,
+            Line::Negative => Stage::Negative,
+            Line::Slots(_) => Stage::Slots,
+            Line::Step(_) => Stage::Step,
+        }
+    }
+
+    // Whether the line may follow, once the job has come to this stage. The film comes first, and
+    // steps alone follow their like.
+    fn may_follow(self, reached: Option<Stage>) -> bool {
+        match (reached, self.stage()) {
+            (None, stage) => stage == Stage::Film,
+            (Some(Stage::Step), stage) => stage == Stage::Step,
+            (Some(reached), stage) => stage > reached,
+        }
     }
 }
 
-// Whether a line may follow, once the job has come to this stage.
-fn may_follow(line: Line<'_>, reached: u8) -> bool {
-    match stage(line) {
-        1 => reached == 0,
-        6 => reached >= 1,
-        s => reached >= 1 && s > reached,
-    }
+// A window from its four numbers.
+pub(crate) fn window_of([x, y, width, height]: [&str; 4]) -> Option<Window> {
+    Some(Window {
+        x: x.parse().ok()?,
+        y: y.parse().ok()?,
+        width: width.parse().ok()?,
+        height: height.parse().ok()?,
+    })
 }
 
 // A job as it is read.
 #[derive(Drop)]
 struct Job<'a> {
-    reached: u8,
-    film: FilmPlan,
+    reached: Option<Stage>,
+    film: Option<FilmPlan>,
     pile: PilePlan,
-    slots: SlotPlan,
+    slots: Option<SlotPlan>,
     steps: Vec<NumberedStep<'a>>,
 }
 
-fn take_line<'a>(job: &mut Job<'a>, line: usize, what: Line<'a>) -> Result<(), AllocError> {
-    job.reached = stage(what);
-    match what {
-        Line::Film(plan) => job.film = plan,
-        Line::Cut(v) => job.pile.cut = Some(v),
-        Line::Mirror => job.pile.mirror = true,
-        Line::Negative => job.pile.negative = true,
-        Line::Slots(plan) => job.slots = plan,
-        Line::Step(step) => job.steps.push(NumberedStep { line, step })?,
-    }
-    Ok(())
-}
-
-// What a line says, without its comment.
-fn said(line: &str) -> &str {
-    match line.split_once('#') {
-        Some((front, _)) => front,
-        None => line,
+impl<'a> Job<'a> {
+    fn take(&mut self, number: usize, line: Line<'a>) -> Result<(), AllocError> {
+        self.reached = Some(line.stage());
+        match line {
+            Line::Film(plan) => self.film = Some(plan),
+            Line::Cut(window) => self.pile.cut = Some(window),
+            Line::Mirror => self.pile.mirror = true,
+            Line::Negative => self.pile.negative = true,
+            Line::Slots(plan) => self.slots = Some(plan),
+            Line::Step(step) => self.steps.push(NumberedStep { line: number, step })?,
+        }
+        Ok(())
     }
 }
 
-fn words_of<'a>(rt: &HostRuntime, line: &'a str) -> Result<Vec<&'a str>, Stop> {
-    let mut words = Vec::new(rt.alloc());
-    for word in said(line).split_whitespace() {
-        words.push(word)?;
-    }
-    Ok(words)
-}
-
-fn complain(rt: &HostRuntime, path: &str, line: usize, text: &str) -> Result<(), Stop> {
-    eprintln!(rt; "plotter: {path}, line {line}: no line of a job: {text}")?;
-    Err(Stop::Told)
+// The words of a line, without its comment.
+fn words_of<'a>(rt: &HostRuntime, line: &'a str) -> Result<Vec<&'a str>, AllocError> {
+    let said = line.split_once('#').map_or(line, |(front, _)| front);
+    said.split_whitespace().collect(rt.alloc())
 }
 
 // Reads every line before anything is done.
 fn parse_job<'a>(rt: &HostRuntime, path: &str, text: &'a str) -> Result<Job<'a>, Stop> {
-    let film = FilmPlan {
-        kind: Kind::Bitmap,
-        width: 0,
-        height: 0,
-        pitch: 0,
-        ox: 0,
-        oy: 0,
-    };
-    let pile = PilePlan {
-        cut: None,
-        mirror: false,
-        negative: false,
-    };
     let mut job = Job {
-        reached: 0,
-        film,
-        pile,
-        slots: SlotPlan::full(),
+        reached: None,
+        film: None,
+        pile: PilePlan::default(),
+        slots: None,
         steps: Vec::new(rt.alloc()),
     };
     for (i, line) in text.lines().enumerate() {
@@ -227,9 +145,12 @@ fn parse_job<'a>(rt: &HostRuntime, path: &str, text: &'a str) -> Result<Job<'a>,
         if words.is_empty() {
             continue;
         }
-        match line_of(words.as_slice()) {
-            Some(what) if may_follow(what, job.reached) => take_line(&mut job, number, what)?,
-            _ => complain(rt, path, number, line)?,
+        match Line::of(words.as_slice()) {
+            Some(what) if what.may_follow(job.reached) => job.take(number, what)?,
+            _ => return stop_with(
+                rt,
+                format_args!("{path}, line {number}: no line of a job: {line}"),
+            ),
         }
     }
     Ok(job)
@@ -239,18 +160,18 @@ fn parse_job<'a>(rt: &HostRuntime, path: &str, text: &'a str) -> Result<Job<'a>,
 pub(crate) fn run_job(rt: &HostRuntime, path: &str) -> Result<(), Stop> {
     let bytes = read_file(rt, path)?;
     let Ok(text) = std::str::from_utf8(bytes.as_slice()) else {
-        eprintln!(rt; "plotter: {path} is no text")?;
-        return Err(Stop::Told);
+        return stop_with(rt, format_args!("{path} is no text"));
     };
     let job = parse_job(rt, path, text)?;
-    if job.reached == 0 {
-        eprintln!(rt; "plotter: {path} has no line: a job begins with its film")?;
-        return Err(Stop::Told);
-    }
-    let work = Work {
-        teller: Teller::Job,
-        task: Task::Steps(job.steps.as_slice()),
-        slots: job.slots,
+    let Some(film) = job.film else {
+        return stop_with(
+            rt,
+            format_args!("{path} has no line: a job begins with its film"),
+        );
     };
-    expose_on(rt, job.film, job.pile, &work)
+    let work = Steps {
+        slots: job.slots,
+        steps: job.steps.as_slice(),
+    };
+    expose_on(rt, film, job.pile, &work)
 }

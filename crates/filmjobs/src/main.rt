@@ -7,58 +7,23 @@
 // told on standard error, and the program ends with status 1.
 #![tactic(auto)]
 
-mod card;
-mod files;
 mod job;
-mod listing;
 mod memory;
 mod options;
 mod pile;
-mod position;
 mod recording;
-mod sheets;
 mod work;
 
-use card::expose_card;
 use job::run_job;
-use listing::list_commands;
-use memory::SlotPlan;
 use options::{Options, Order, USAGE, complain, take_argument};
 use pile::expose_on;
 use recording::list_records;
-use std::alloc::{AllocError, AllocFailed};
+use std::env;
 use std::process::ExitCode;
-use std::{env, io};
-use work::{Single, Task, Teller, Work};
-
-// What ends the program early.
-#[derive(Debug, Drop)]
-pub(crate) enum Stop {
-    // the reason has been told on standard error
-    Told,
-    // the output cannot be written
-    Output(io::Error),
-    // there is not enough memory
-    Memory,
-}
-
-impl From<AllocError> for Stop {
-    fn from(_: AllocError) -> Stop {
-        Stop::Memory
-    }
-}
-
-impl<T: Drop> From<AllocFailed<T>> for Stop {
-    fn from(_: AllocFailed<T>) -> Stop {
-        Stop::Memory
-    }
-}
-
-impl From<io::Error> for Stop {
-    fn from(e: io::Error) -> Stop {
-        Stop::Output(e)
-    }
-}
+use terminal::card::expose_card;
+use terminal::listing::list_commands;
+use terminal::stop::{Stop, exit_code};
+use work::Single;
 
 // Plots the one file that the arguments name.
 fn plot_file(rt: &HostRuntime, options: &Options) -> Result<(), Stop> {
@@ -73,12 +38,7 @@ fn plot_file(rt: &HostRuntime, options: &Options) -> Result<(), Stop> {
         sheet: sheet.as_str(),
         window: options.window,
     };
-    let work = Work {
-        teller: Teller::Person,
-        task: Task::One(single),
-        slots: SlotPlan::full(),
-    };
-    expose_on(rt, options.film(size), options.pile, &work)
+    expose_on(rt, options.film(size), options.pile, &single)
 }
 
 fn draw_card(rt: &HostRuntime, options: &Options, path: &str) -> Result<(), Stop> {
@@ -120,14 +80,8 @@ fn run(rt: &HostRuntime) -> Result<(), Stop> {
     obey_all(rt, &options)
 }
 
+// each program has a main of its own
 fn main(rt: HostRuntime) -> ExitCode {
-    match run(&rt) {
-        Ok(()) => ExitCode::SUCCESS,
-        Err(Stop::Memory) => {
-            // the status tells of it where this cannot be written
-            let _ = eprintln!(rt; "plotter: there is not enough memory");
-            ExitCode::FAILURE
-        }
-        Err(_) => ExitCode::FAILURE,
-    }
+    let outcome = run(&rt);
+    exit_code(&rt, outcome)
 }

@@ -1,7 +1,12 @@
 // The program's options.
-use crate::Stop;
+use crate::job::window_of;
 use crate::pile::{FilmPlan, Kind, PilePlan};
+use film::grid::Grid;
 use film::window::Window;
+use sheet::size::Size;
+use std::alloc::AllocError;
+use terminal::sheets::size_of;
+use terminal::stop::{Stop, stop_with};
 
 pub(crate) const USAGE: &str =
     "usage: plotter GERBER FILM --size=W,H [--pitch=P] [--origin=X,Y] [--window=x,y,w,h]
@@ -26,16 +31,10 @@ pub(crate) enum Order {
     Help,
 }
 
-// A film's width and height.
-#[derive(Clone, Copy)]
-pub(crate) struct Size {
-    pub(crate) width: u32,
-    pub(crate) height: u32,
-}
-
 // All options.
 #[derive(Drop)]
 pub(crate) struct Options {
+    // what is ordered, and apart from it the file to plot and where its sheet goes
     pub(crate) orders: Vec<Order>,
     pub(crate) paths: Vec<String>,
     pub(crate) size: Option<Size>,
@@ -58,93 +57,60 @@ impl Options {
             oy: 0,
             kind: Kind::Bitmap,
             window: None,
-            pile: PilePlan {
-                cut: None,
-                mirror: false,
-                negative: false,
-            },
+            pile: PilePlan::default(),
         }
     }
 
     pub(crate) fn film(&self, size: Size) -> FilmPlan {
         FilmPlan {
             kind: self.kind,
-            width: size.width,
-            height: size.height,
-            pitch: self.pitch,
-            ox: self.ox,
-            oy: self.oy,
+            grid: Grid {
+                width: size.width,
+                height: size.height,
+                pitch: self.pitch,
+                ox: self.ox,
+                oy: self.oy,
+            },
         }
     }
 }
 
 pub(crate) fn complain(rt: &HostRuntime, about: &str, arg: &str) -> Result<(), Stop> {
-    eprintln!(rt; "plotter: {about} {arg}")?;
-    eprintln!(rt; "plotter: --help shows every form")?;
-    Err(Stop::Told)
+    stop_with(
+        rt,
+        format_args!("{about} {arg}\nplotter: --help shows every form"),
+    )
 }
 
-fn number(text: &str) -> Option<u32> {
-    text.parse::<u32>().ok()
-}
-
-fn signed(text: &str) -> Option<i32> {
-    text.parse::<i32>().ok()
-}
-
-fn size_of(text: &str) -> Option<Size> {
-    let (width, height) = text.split_once(',')?;
-    Some(Size {
-        width: number(width)?,
-        height: number(height)?,
-    })
-}
-
-fn window_of(text: &str) -> Option<Window> {
+// A window from its four numbers with commas between.
+fn window(text: &str) -> Option<Window> {
     let (x, rest) = text.split_once(',')?;
     let (y, rest) = rest.split_once(',')?;
-    let (w, h) = rest.split_once(',')?;
-    Some(Window {
-        x: number(x)?,
-        y: number(y)?,
-        width: number(w)?,
-        height: number(h)?,
-    })
+    let (width, height) = rest.split_once(',')?;
+    window_of([x, y, width, height])
 }
 
 fn origin(text: &str) -> Option<(i32, i32)> {
     let (x, y) = text.split_once(',')?;
-    Some((signed(x)?, signed(y)?))
-}
-
-fn kind_of(text: &str) -> Option<Kind> {
-    match text {
-        "bitmap" => Some(Kind::Bitmap),
-        "runs" => Some(Kind::Runs),
-        _ => None,
-    }
+    Some((x.parse().ok()?, y.parse().ok()?))
 }
 
 // Takes an option that says something about the film; None where its value is none.
 fn take_value(options: &mut Options, name: &str, value: &str) -> Option<()> {
     match name {
         "--size" => options.size = Some(size_of(value)?),
-        "--pitch" => options.pitch = number(value)?,
-        "--origin" => {
-            let (x, y) = origin(value)?;
-            options.ox = x;
-            options.oy = y;
-        }
-        "--window" => options.window = Some(window_of(value)?),
-        "--cut" => options.pile.cut = Some(window_of(value)?),
-        "--film" => options.kind = kind_of(value)?,
+        "--pitch" => options.pitch = value.parse().ok()?,
+        "--origin" => (options.ox, options.oy) = origin(value)?,
+        "--window" => options.window = Some(window(value)?),
+        "--cut" => options.pile.cut = Some(window(value)?),
+        "--film" => options.kind = Kind::named(value)?,
         _ => return None,
     }
     Some(())
 }
 
 // The order that an option gives, if it gives one.
-fn order_of(rt: &HostRuntime, name: &str, value: &str) -> Result<Option<Order>, Stop> {
+fn order_of(rt: &HostRuntime, name: &str, value: &str) -> Result<Option<Order>, AllocError> {
     let path = String::from_str(rt.alloc(), value)?;
     Ok(match name {
         "--job" => Some(Order::Job(path)),
@@ -164,16 +130,14 @@ fn take_named(
 ) -> Result<(), Stop> {
     if let Some(order) = order_of(rt, name, value)? {
         options.orders.push(order)?;
-        return Ok(());
-    }
-    match take_value(options, name, value) {
-        Some(()) => Ok(()),
-        None => complain(
+    } else if take_value(options, name, value).is_none() {
+        complain(
             rt,
             "an unknown option, or a value that it cannot have:",
             arg,
-        ),
+        )?;
     }
+    Ok(())
 }
 
 fn take_flag(rt: &HostRuntime, options: &mut Options, arg: &str) -> Result<(), Stop> {
@@ -181,7 +145,7 @@ fn take_flag(rt: &HostRuntime, options: &mut Options, arg: &str) -> Result<(), S
         "--mirror" => options.pile.mirror = true,
         "--negative" => options.pile.negative = true,
         "--help" => options.orders.push(Order::Help)?,
-        _ => return complain(rt, "an unknown option:", arg),
+        _ => complain(rt, "an unknown option:", arg)?,
     }
     Ok(())
 }

@@ -1,16 +1,20 @@
 // Making a film, and piling cut-out, mirror and negative over it.
-use crate::Stop;
-use crate::work::{Teller, Work, carry_out};
+use crate::work::Work;
 use bitmap::bitmap::Bitmap;
-use film::fault::FilmFault;
+use bitmap::making::own_bytes;
 use film::film::Film;
+use film::grid::Grid;
 use film::numbers::Numbers;
+use film::refused::Refused;
 use film::window::Window;
 use piles::cutout::CutOut;
 use piles::mirror::Mirror;
 use piles::negative::Negative;
+use runs::making::own_slots;
+use runs::memory::RunMemory;
 use runs::run::Run;
 use runs::runfilm::RunFilm;
+use terminal::stop::Stop;
 
 // The film that keeps the pixels.
 #[derive(Clone, Copy)]
@@ -19,120 +23,130 @@ pub(crate) enum Kind {
     Runs,
 }
 
-// A film's numbers as they are asked for.
+impl Kind {
+    pub(crate) fn named(text: &str) -> Option<Kind> {
+        match text {
+            "bitmap" => Some(Kind::Bitmap),
+            "runs" => Some(Kind::Runs),
+            _ => None,
+        }
+    }
+}
+
+// A film as it is asked for.
 #[derive(Clone, Copy)]
 pub(crate) struct FilmPlan {
     pub(crate) kind: Kind,
-    pub(crate) width: u32,
-    pub(crate) height: u32,
-    pub(crate) pitch: u32,
-    pub(crate) ox: i32,
-    pub(crate) oy: i32,
+    pub(crate) grid: Grid,
 }
 
-// What lies over the film, from below to above.
-#[derive(Clone, Copy)]
+// What lies over the film, from below to above: a mirror or none, a negative or none, whatever the other.
+#[derive(Clone, Copy, Default)]
 pub(crate) struct PilePlan {
     pub(crate) cut: Option<Window>,
+    // two choices of their own, with no value beside either
     pub(crate) mirror: bool,
     pub(crate) negative: bool,
 }
 
-fn on_negative<F: Film + Drop>(
-    rt: &HostRuntime,
-    film: F,
-    pile: PilePlan,
-    work: &Work<'_, '_>,
-) -> Result<(), Stop> {
-    if pile.negative {
-        work.teller.tell_negative(rt)?;
-        let mut negative = Negative { below: film };
-        carry_out(rt, &mut negative, work)
-    } else {
-        let mut film = film;
-        carry_out(rt, &mut film, work)
-    }
-}
-
-fn on_mirror<F: Film + Drop>(
-    rt: &HostRuntime,
-    film: F,
-    pile: PilePlan,
-    work: &Work<'_, '_>,
-) -> Result<(), Stop> {
-    if pile.mirror {
-        work.teller.tell_mirror(rt)?;
-        on_negative(rt, Mirror { below: film }, pile, work)
-    } else {
-        on_negative(rt, film, pile, work)
-    }
-}
-
-fn on_cut<F: Film + Drop>(
-    rt: &HostRuntime,
-    film: F,
-    pile: PilePlan,
-    work: &Work<'_, '_>,
-) -> Result<(), Stop> {
-    let Some(window) = pile.cut else {
-        return on_mirror(rt, film, pile, work);
-    };
-    match CutOut::new(film, window) {
-        Ok(cut) => {
-            work.teller.tell_cut(rt, window)?;
-            on_mirror(rt, cut, pile, work)
+// Each film of a pile is of another type, so that each of these methods goes on to the next.
+impl PilePlan {
+    fn over_film<F: Film + Drop, M: Drop, W: Work>(
+        self,
+        rt: &HostRuntime,
+        made: Result<F, Refused<M>>,
+        work: &W,
+    ) -> Result<(), Stop> {
+        match made {
+            Ok(film) => self.over_uncut(rt, film, work),
+            Err(refused) => work.refuse(rt, "film", refused.fault),
         }
-        Err(refused) => work.teller.refuse(rt, "cut", refused.fault),
+    }
+
+    fn over_uncut<F: Film + Drop, W: Work>(
+        self,
+        rt: &HostRuntime,
+        film: F,
+        work: &W,
+    ) -> Result<(), Stop> {
+        let Some(window) = self.cut else {
+            return self.over_cut(rt, film, work);
+        };
+        match CutOut::new(film, window) {
+            Ok(cut) => {
+                work.tell(rt, format_args!("cut {} {}", window.width, window.height))?;
+                self.over_cut(rt, cut, work)
+            }
+            Err(refused) => work.refuse(rt, "cut", refused.fault),
+        }
+    }
+
+    fn over_cut<F: Film + Drop, W: Work>(
+        self,
+        rt: &HostRuntime,
+        film: F,
+        work: &W,
+    ) -> Result<(), Stop> {
+        if self.mirror {
+            work.tell(rt, "mirror")?;
+            self.over_mirror(rt, Mirror { below: film }, work)
+        } else {
+            self.over_mirror(rt, film, work)
+        }
+    }
+
+    fn over_mirror<F: Film + Drop, W: Work>(
+        self,
+        rt: &HostRuntime,
+        mut film: F,
+        work: &W,
+    ) -> Result<(), Stop> {
+        if self.negative {
+            work.tell(rt, "negative")?;
+            work.carry_out(rt, &mut Negative { below: film })
+        } else {
+            work.carry_out(rt, &mut film)
+        }
     }
 }
 
-// Bytes for a bitmap of these numbers.
-fn bitmap_bytes(n: Numbers) -> usize {
-    (n.width as usize)
-        .div_ceil(8)
-        .saturating_mul(n.height as usize)
-}
-
-fn on_bitmap(
+// Makes a film of these numbers, and carries out the work on the pile over it.
+fn expose_made<W: Work>(
     rt: &HostRuntime,
     n: Numbers,
+    film: FilmPlan,
     pile: PilePlan,
-    work: &Work<'_, '_>,
+    work: &W,
 ) -> Result<(), Stop> {
-    let memory = vec![in rt.alloc(); 0u8; bitmap_bytes(n)]?;
-    match Bitmap::new(memory, n.width, n.height, n.pitch, n.ox, n.oy) {
-        Ok(film) => on_cut(rt, film, pile, work),
-        Err(refused) => work.teller.refuse(rt, "film", refused.fault),
-    }
-}
-
-fn on_runs(rt: &HostRuntime, n: Numbers, pile: PilePlan, work: &Work<'_, '_>) -> Result<(), Stop> {
-    let rows = n.height as usize;
-    let slots = (n.width as usize).div_ceil(2).saturating_mul(rows);
-    let counts = vec![in rt.alloc(); 0u32; rows]?;
-    let slots = vec![in rt.alloc(); Run { first: 0, end: 0 }; slots]?;
-    match RunFilm::new(counts, slots, n.width, n.height, n.pitch, n.ox, n.oy) {
-        Ok(film) => on_cut(rt, film, pile, work),
-        Err(refused) => work.teller.refuse(rt, "film", refused.fault),
+    let FilmPlan { kind, grid } = film;
+    match kind {
+        Kind::Bitmap => {
+            let memory = vec![in rt.alloc(); 0u8; own_bytes(n)]?;
+            pile.over_film(rt, Bitmap::new(memory, grid), work)
+        }
+        Kind::Runs => {
+            let memory = RunMemory {
+                counts: vec![in rt.alloc(); 0u32; n.height as usize]?,
+                slots: vec![in rt.alloc(); Run { first: 0, end: 0 }; own_slots(n)]?,
+            };
+            pile.over_film(rt, RunFilm::new(memory, grid), work)
+        }
     }
 }
 
 // Makes the film and the pile, and carries out the work on it. Numbers outside their limits are
 // refused before memory is asked for.
-pub(crate) fn expose_on(
+pub(crate) fn expose_on<W: Work>(
     rt: &HostRuntime,
     film: FilmPlan,
     pile: PilePlan,
-    work: &Work<'_, '_>,
+    work: &W,
 ) -> Result<(), Stop> {
-    match Numbers::new(film.width, film.height, film.pitch, film.ox, film.oy) {
+    match Numbers::new(film.grid) {
         Ok(n) => {
-            work.teller.tell_film(rt, n)?;
-            match film.kind {
-                Kind::Bitmap => on_bitmap(rt, n, pile, work),
-                Kind::Runs => on_runs(rt, n, pile, work),
-            }
+            work.tell(rt, format_args!("film {} {}", n.width, n.height))?;
+            expose_made(rt, n, film, pile, work)
         }
-        Err(fault) => work.teller.refuse(rt, "film", fault),
+        Err(fault) => work.refuse(rt, "film", fault),
     }
 }

@@ -1,46 +1,33 @@
 // Listing the records of a file.
-use crate::Stop;
-use crate::files::{read_file, tell_refusal};
-use crate::memory::{Memory, SlotPlan, make_memory};
+use crate::memory::{Memory, SlotPlan};
 use drawing::fault::Drawing;
 use drawing::reading::read_drawing;
-use wording::records_in_words::{ApertureLine, ObjectLine, PieceLine};
-use wording::refusals::explain_plot;
+use std::fmt;
+use terminal::files::{read_file, refuse};
+use terminal::stop::Stop;
+use wording::records_in_words::Numbered;
 
-fn print_apertures(rt: &HostRuntime, memory: &Memory, count: usize) -> Result<(), Stop> {
-    for (number, aperture) in memory.apertures.iter().copied().take(count).enumerate() {
-        let line = ApertureLine { number, aperture };
-        println!(rt; "{line}")?;
-    }
-    Ok(())
-}
-
-fn print_objects(rt: &HostRuntime, memory: &Memory, count: usize) -> Result<(), Stop> {
-    for (number, object) in memory.objects.iter().copied().take(count).enumerate() {
-        let line = ObjectLine { number, object };
-        println!(rt; "{line}")?;
-    }
-    Ok(())
-}
-
-fn print_pieces(rt: &HostRuntime, memory: &Memory, count: usize) -> Result<(), Stop> {
-    for (number, piece) in memory.pieces.iter().copied().take(count).enumerate() {
-        let line = PieceLine { number, piece };
-        println!(rt; "{line}")?;
+// Prints the first `count` records, each with its number.
+fn print_numbered<T: Copy>(rt: &HostRuntime, records: &[T], count: usize) -> Result<(), Stop>
+where
+    Numbered<T>: fmt::Display,
+{
+    for (number, &record) in records.iter().take(count).enumerate() {
+        println!(rt; "{}", Numbered { number, record })?;
     }
     Ok(())
 }
 
 fn print_records(rt: &HostRuntime, memory: &Memory, drawing: Drawing) -> Result<(), Stop> {
-    print_apertures(rt, memory, drawing.apertures)?;
-    print_objects(rt, memory, drawing.objects)?;
-    print_pieces(rt, memory, drawing.pieces)?;
-    let (apertures, objects, pieces, laid) = (
-        drawing.apertures,
-        drawing.objects,
-        drawing.pieces,
-        drawing.laid,
-    );
+    let Drawing {
+        apertures,
+        objects,
+        pieces,
+        laid,
+    } = drawing;
+    print_numbered(rt, memory.apertures.as_slice(), apertures)?;
+    print_numbered(rt, memory.objects.as_slice(), objects)?;
+    print_numbered(rt, memory.pieces.as_slice(), pieces)?;
     println!(rt; "{apertures} apertures, {objects} objects, {pieces} pieces, {laid} objects laid")?;
     Ok(())
 }
@@ -48,18 +35,9 @@ fn print_records(rt: &HostRuntime, memory: &Memory, drawing: Drawing) -> Result<
 // Lists the records of the file at `path`, or tells why it is refused.
 pub(crate) fn list_records(rt: &HostRuntime, path: &str) -> Result<(), Stop> {
     let file = read_file(rt, path)?;
-    let mut memory = make_memory(rt.alloc(), SlotPlan::full())?;
-    let read = read_drawing(
-        file.as_slice(),
-        memory.apertures.as_mut_slice(),
-        memory.objects.as_mut_slice(),
-        memory.pieces.as_mut_slice(),
-    );
-    match read {
+    let mut memory = Memory::new(rt.alloc(), SlotPlan::FULL)?;
+    match read_drawing(file.as_slice(), &mut memory.lend()) {
         Ok(drawing) => print_records(rt, &memory, drawing),
-        Err(fault) => {
-            tell_refusal(rt, path, file.as_slice(), explain_plot(fault))?;
-            Err(Stop::Told)
-        }
+        Err(fault) => refuse(rt, path, file.as_slice(), fault.into()),
     }
 }

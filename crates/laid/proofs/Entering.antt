@@ -1,23 +1,13 @@
 -- which blocks are entered
-use Rattle.std.proofs.Common.{◌≡◌, ℕ, zero, suc, ◌<◌, ◌≤◌, Bool, true, false, cond, ltb, List, [], map, length, get_or, None, Option, sym, refl, ap, ◌∙◌, subst, arith}
+use Rattle.std.proofs.Common.{◌≡◌, ℕ, zero, suc, ◌<◌, Bool, true, false, cond, ltb, List, [], length, None, Option, sym, refl, ap, ◌∙◌, subst, arith}
 use Rattle.laid.proofs.Nothing.{weighs_nothing}
 use Rattle.laid.specs.Laid.{LaidObject, lay_all, lay_block, objects_in}
 use Rattle.laid.specs.Stacks.{EnteredAt, first_in}
 use Rattle.records.specs.Records as seen
 use Rattle.records.specs.Records.{ApertureSeen, FigureSeen, ObjectSeen, seen_aperture}
-use Rattle.records.specs.Weights.{figure_at, none, or_nothing, weight_told}
-use Rattle.records.specs.declared.kinds.Aperture.{Aperture}
+use Rattle.records.specs.Weights.{figure_at, or_nothing, weight_told}
 use Rattle.records.specs.declared.weights.Weight.{Weight}
-use Rattle.std.proofs.lemmas.List.{get_or_past, length-map}
 use Rattle.std.proofs.lemmas.Bool.{ltb-false}
-
-pub figure_past : (aps : List Aperture) (n : ℕ) → length aps ≤ n → figure_at (map seen_aperture aps) n ≡ seen.circle 0
-figure_past aps n h =
-    let l : length (map seen_aperture aps) ≤ n = simp length-map (omega arith) in
-    ap (λ (a : ApertureSeen). a.figure) (get_or_past (map seen_aperture aps) n (record { code = 0; figure = seen.circle 0 }) l)
-
-pub weight_past : (ws : List Weight) (n : ℕ) → length ws ≤ n → false ≡ ltb 0 (get_or ws n none).laid
-weight_past ws n h = sym (ap (λ (w : Weight). ltb 0 w.laid) (get_or_past ws n none h))
 
 nil : (b : Bool) (v : List LaidObject) → v ≡ [] → cond b v [] ≡ []
 nil true v e = e

@@ -1,10 +1,10 @@
 -- the objects of a group, from the one with the number i on
-use Rattle.std.proofs.Common.{◌≡◌, ℕ, ◌+◌, ◌-◌, ◌<◌, ◌≤◌, Bool, true, false, cond, List, [], ◌∷◌, map, length, get_or, take, drop, sym, ap, ◌∙◌, one-add, arith}
+use Rattle.std.proofs.Common.{◌≡◌, ℕ, ◌+◌, ◌<◌, Bool, true, false, cond, List, [], ◌∷◌, map, length, get_or, take, drop, sym, ap, ◌∙◌, one-add, arith}
 use Rattle.records.proofs.Parts.{leading_map}
 use Rattle.records.specs.Records.{ObjectSeen, seen_object}
 use Rattle.records.specs.declared.kinds.Object.{Object}
-use Rattle.std.proofs.lemmas.List.{drop_all, drop-map, drop_more, get_or-map, length-map, take-map}
-use Rattle.std.specs.List.{between, prefix_len}
+use Rattle.std.proofs.lemmas.List.{drop-map, drop_more, get_or-map, length-map, take-map}
+use Rattle.std.specs.List.{prefix_len}
 
 abbrev pub front : (ObjectSeen → Bool) → List ObjectSeen → List ObjectSeen
 front p os = take (prefix_len p os) os
@@ -18,16 +18,11 @@ module _ (p : ObjectSeen → Bool) where
   stopped o os e = ap (λ b. take (cond b (1 + prefix_len p os) 0) (o ∷ os)) e
 
   module _ (os : List Object) (i : ℕ) where
-    pub front_past : length os ≤ i → front p (drop i (map seen_object os)) ≡ []
-    front_past h = let l : length (map seen_object os) ≤ i = simp length-map (omega arith) in ap (front p) (drop_all i (map seen_object os) l)
-
     -- the part of the table that they are
-    pub front_part : (e : ℕ) → e ≡ i + prefix_len (λ o. p (seen_object o)) (drop i os) → map seen_object (between i e os) ≡ front p (drop i (map seen_object os))
-    front_part e h =
-        let m : e - i ≡ prefix_len (λ o. p (seen_object o)) (drop i os) = omega arith in
-        let l : prefix_len (λ o. p (seen_object o)) (drop i os) ≡ prefix_len p (drop i (map seen_object os)) =
-        sym (leading_map p seen_object (drop i os)) ∙ ap (prefix_len p) (sym (drop-map seen_object i os)) in
-        sym (take-map seen_object (e - i) (drop i os)) ∙ ap (take (e - i)) (sym (drop-map seen_object i os)) ∙ ap (λ n. take n (drop i (map seen_object os))) (m ∙ l)
+    pub front_part : (rest : List Object) (n : ℕ) → rest ≡ drop i os → n ≡ prefix_len (λ o. p (seen_object o)) rest → map seen_object (take n rest) ≡ front p (drop i (map seen_object os))
+    front_part rest n e h =
+        sym (take-map seen_object n rest) ∙ ap (λ k. take k (map seen_object rest)) (h ∙ sym (leading_map p seen_object rest))
+        ∙ ap (front p) (ap (map seen_object) e ∙ sym (drop-map seen_object i os))
 
     module _ (x : Object) (h : i < length os) (e : x ≡ get_or os i x) where
       pub at_front : drop i (map seen_object os) ≡ seen_object x ∷ drop (i + 1) (map seen_object os)

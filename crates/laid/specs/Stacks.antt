@@ -1,5 +1,6 @@
 -- What the blocks that are being laid have still to lay, and how many turns that takes.
 use Rattle.std.specs.Prelude.{◌≡◌, ℕ, zero, suc, ◌+◌, ◌-◌, ◌<◌, Bool, true, false, cond, List, [], ◌∷◌, ◌++◌, map, Some, None, Option, nat_lt, slice_index_or}
+use Rattle.arrayvec.specs.ArrayVec.{array_vec_len}
 use Rattle.laid.specs.Frames.{idle}
 use Rattle.laid.specs.Laid.{LaidObject, block_objects, lay_all, lay_block, lay_one}
 use Rattle.laid.specs.Puts.{Put, seen_placing, shifted}
@@ -7,7 +8,6 @@ use Rattle.laid.specs.declared.drawing.Drawing.{Drawing}
 use Rattle.laid.specs.declared.kinds.Flash.{Flash}
 use Rattle.laid.specs.declared.kinds.Frame.{Frame}
 use Rattle.laid.specs.declared.kinds.PlacedObject.{PlacedObject}
-use Rattle.laid.specs.declared.kinds.Step.{Step}
 use Rattle.laid.specs.declared.stack.Stack.{Stack}
 use Rattle.plane.specs.Plane.{At}
 use Rattle.plane.specs.Points.{file_point_at}
@@ -18,15 +18,15 @@ use Rattle.records.specs.declared.kinds.Object.{Object}
 
 -- A drawing's apertures as plain values.
 abbrev pub apertures_of : Drawing → List ApertureSeen
-apertures_of d = map seen_aperture d.apertures.now
+apertures_of d = map seen_aperture d.records.apertures.now
 
 -- Its objects.
 abbrev pub objects_of : Drawing → List ObjectSeen
-objects_of d = map seen_object d.objects.now
+objects_of d = map seen_object d.records.objects.now
 
 -- Its pieces.
 abbrev pub pieces_in : Drawing → List At
-pieces_in d = map seen_piece d.pieces.now
+pieces_in d = map seen_piece d.records.pieces.now
 
 -- An outline that is no flash of a block.
 abbrev pub is_plain : OutlineSeen → Bool
@@ -44,16 +44,20 @@ FlashOf o None = is_plain o ≡ true
 FlashOf o (Some f) = o ≡ seen.block f.number (file_point_at f.at) f.mirror
 
 -- The next object of a frame's block, with the frame behind it.
-pub record StepOf (os : List ObjectSeen) (f : Frame) (s : Step) : Type 0 where
-  pub objects : owned_from f.block f.next os ≡ seen_object s.object ∷ owned_from f.block s.frame.next os
-  pub block : s.frame.block ≡ f.block
-  pub placing : s.frame.placing ≡ f.placing
-  pub turn : s.frame.turn ≡ f.turn
+pub record StepOf (os : List ObjectSeen) (f : Frame) (o : Object) (g : Frame) : Type 0 where
+  pub objects : owned_from f.block f.next os ≡ seen_object o ∷ owned_from f.block g.next os
+  pub block : g.block ≡ f.block
+  pub placing : g.placing ≡ f.placing
+  pub turn : g.turn ≡ f.turn
 
--- The answer is the next object of a frame's block, if there is one more.
-abbrev pub NextOf : List ObjectSeen → Frame → Option Step → Type 0
-NextOf os f None = owned_from f.block f.next os ≡ []
-NextOf os f (Some s) = StepOf os f s
+-- The answer is the next object of a frame's block, if there is one more, and the frame is then g.
+abbrev pub NextOf : List ObjectSeen → Frame → Option Object → Frame → Type 0
+NextOf os f None g = owned_from f.block f.next os ≡ []
+NextOf os f (Some o) g = StepOf os f o g
+
+-- An object as a frame's block lays it.
+abbrev pub placed_in : Frame → Object → PlacedObject
+placed_in f o = record { object = o; placing = f.placing; turn = f.turn }
 
 -- What a placed object lays by itself: a flash of a block nothing, since the block is laid object by object.
 abbrev pub lays_one : List At → PlacedObject → List LaidObject
@@ -127,11 +131,11 @@ OpenedBy aps os k p None = (pcs : List At) (deep : ℕ) → lays_whole aps os pc
 
 -- What a stack has still to lay.
 unfoldable pub left : Drawing → Stack → List LaidObject
-left d s = lay_frames (apertures_of d) (objects_of d) (pieces_in d) s.frames s.n
+left d s = lay_frames (apertures_of d) (objects_of d) (pieces_in d) s.frames.items (array_vec_len s.frames)
 
 -- How many turns that takes.
 unfoldable pub turns_left : Drawing → Stack → ℕ
-turns_left d s = turns_frames (apertures_of d) (objects_of d) s.frames s.n
+turns_left d s = turns_frames (apertures_of d) (objects_of d) s.frames.items (array_vec_len s.frames)
 
 -- What an answer lays.
 abbrev pub listed : Drawing → Option PlacedObject → List LaidObject
@@ -140,14 +144,14 @@ listed d None = []
 
 -- The object p of block k is taken up, and r is to lay now: that and what is left then is what p lays and what was left.
 pub record TakenUp (d : Drawing) (k : ℕ) (p : PlacedObject) (before : Stack) (r : Option PlacedObject) (after : Stack) : Type 0 where
-  pub lays : lays_whole (apertures_of d) (objects_of d) (pieces_in d) (8 - before.n) k p ++ left d before ≡ listed d r ++ left d after
-  pub falls : turns_left d after < turns_outline (turns_block (apertures_of d) (objects_of d) (8 - before.n)) (seen_object p.object).outline + turns_left d before
+  pub lays : lays_whole (apertures_of d) (objects_of d) (pieces_in d) (8 - array_vec_len before.frames) k p ++ left d before ≡ listed d r ++ left d after
+  pub falls : turns_left d after < turns_outline (turns_block (apertures_of d) (objects_of d) (8 - array_vec_len before.frames)) (seen_object p.object).outline + turns_left d before
 
 -- The object o of the layer, moved by (x, y), is taken up while no block is open, and r is to lay now.
 pub record Begun (d : Drawing) (o : Object) (x y : ℕ) (before : Stack) (r : Option PlacedObject) (after : Stack) : Type 0 where
-  pub lays : before.n ≡ 0 → lay_one (pieces_in d) (lay_block (apertures_of d) (objects_of d) (pieces_in d) 8) 128 (shifted x y) false (seen_object o) ≡ listed d r ++ left d after
+  pub lays : array_vec_len before.frames ≡ 0 → lay_one (pieces_in d) (lay_block (apertures_of d) (objects_of d) (pieces_in d) 8) 128 (shifted x y) false (seen_object o) ≡ listed d r ++ left d after
 
 -- One turn, and r is to lay now: that and what is left then is what was left, and fewer turns are to come.
 pub record Turned (d : Drawing) (before : Stack) (r : Option PlacedObject) (after : Stack) : Type 0 where
   pub lays : left d before ≡ listed d r ++ left d after
-  pub falls : 0 < before.n → turns_left d after < turns_left d before
+  pub falls : 0 < array_vec_len before.frames → turns_left d after < turns_left d before

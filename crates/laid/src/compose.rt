@@ -1,19 +1,11 @@
 // Placings, one within another.
 ghost use Rattle.std.specs.Prelude.{◌≡◌, ◌+◌, ◌*◌, ◌<◌, ◌≤◌, pos, ◌+ℤ◌, unsigned_abs};
-ghost use Rattle.contour.specs.Chain.{differ};
 ghost use Rattle.laid.specs.Puts.{composed, flashed_at, seen_placing, shifted};
 ghost use Rattle.plane.specs.Placed.{turned};
 ghost use Rattle.plane.specs.Points.{file_point_at};
 
-use crate::kinds::Shift;
-use plane::points::{FilePoint, Placing};
-use records::kinds::Mirror;
-
-fn either(a: bool, b: bool) -> bool
-    ensures { result ≡ differ a b }
-{
-    if a { !b } else { b }
-}
+use crate::kinds::{Flash, Shift};
+use plane::points::Placing;
 
 fn turn(mirror: bool, z: i32) -> i32
     requires { unsigned_abs z ≤ 30000 }
@@ -32,35 +24,37 @@ fn inner(mirror: bool, z: i32, d: i32, level: u8) -> i32
     turn(mirror, z) + d
 }
 
-// Where a block that is flashed at `at` lays its objects, within what `outer` places.
-pub(crate) fn compose(outer: Placing, at: FilePoint, mirror: Mirror) -> Placing
-    requires { outer.level < 8 }
-    ensures put { seen_placing result ≡ composed (seen_placing outer) (flashed_at (file_point_at at) mirror) }
-    ensures level { result.level ≡ outer.level + 1 }
-{
-    let dx = inner(outer.mirror_x, at.x, outer.dx, outer.level);
-    let dy = inner(outer.mirror_y, at.y, outer.dy, outer.level);
-    let mirror_x = either(outer.mirror_x, mirror.x);
-    let mirror_y = either(outer.mirror_y, mirror.y);
-    Placing {
-        mirror_x,
-        mirror_y,
-        dx,
-        dy,
-        level: outer.level + 1,
+impl Flash {
+    // Where the flashed block lays its objects, within what `outer` places.
+    pub(crate) fn within(self, outer: Placing) -> Placing
+        requires { outer.level < 8 }
+        ensures put { seen_placing result ≡ composed (seen_placing outer) (flashed_at (file_point_at self.at) self.mirror) }
+        ensures level { result.level ≡ outer.level + 1 }
+    {
+        let dx = inner(outer.mirror_x, self.at.x, outer.dx, outer.level);
+        let dy = inner(outer.mirror_y, self.at.y, outer.dy, outer.level);
+        Placing {
+            mirror_x: outer.mirror_x != self.mirror.x,
+            mirror_y: outer.mirror_y != self.mirror.y,
+            dx,
+            dy,
+            level: outer.level + 1,
+        }
     }
 }
 
-// Moved by a shift.
-pub(crate) fn shift_by(shift: Shift) -> Placing
-    ensures put { seen_placing result ≡ shifted shift.x shift.y }
-    ensures level { result.level ≡ 0 }
-{
-    Placing {
-        mirror_x: false,
-        mirror_y: false,
-        dx: shift.x as i32,
-        dy: shift.y as i32,
-        level: 0,
+impl Shift {
+    // Moved by the shift.
+    pub(crate) fn placing(self) -> Placing
+        ensures put { seen_placing result ≡ shifted self.x self.y }
+        ensures level { result.level ≡ 0 }
+    {
+        Placing {
+            mirror_x: false,
+            mirror_y: false,
+            dx: self.x as i32,
+            dy: self.y as i32,
+            level: 0,
+        }
     }
 }

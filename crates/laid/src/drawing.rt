@@ -6,12 +6,19 @@ use contour::pieces::Piece;
 use records::kinds::{Aperture, Object};
 use records::weights::Weight;
 
-/// The records of a drawing, and the weights of its apertures.
-#[derive(Drop)]
-pub struct Drawing<'a> {
+/// The records of a drawing: three lists of different kinds, none beside another.
+#[derive(Clone, Copy)]
+pub struct Records<'a> {
     pub apertures: &'a [Aperture],
     pub objects: &'a [Object],
     pub pieces: &'a [Piece],
+}
+
+/// The records of a drawing, and the weights of its apertures.
+#[derive(Drop)]
+pub struct Drawing<'a> {
+    pub records: Records<'a>,
+    // fixed memory: no heap is asked for
     pub(crate) weights: [Weight; 128],
-    ghost weighed: { (k : ℕ) → slice_index_or weights k none ≡ or_nothing (weight_told (length apertures.now) (map seen_aperture apertures.now) (map seen_object objects.now) k) },
+    ghost weighed: { (k : ℕ) → slice_index_or weights k none ≡ or_nothing (weight_told (length records.apertures.now) (map seen_aperture records.apertures.now) (map seen_object records.objects.now) k) },
 }

@@ -1,22 +1,16 @@
 ghost use Rattle.std.specs.Prelude.{◌≡◌};
 
-use crate::drawing::Drawing;
-use contour::pieces::Piece;
-use records::kinds::{Aperture, Object};
+use crate::drawing::{Drawing, Records};
 use records::weights::weigh_all;
 
 impl<'a> Drawing<'a> {
     /// The drawing with these records.
-    pub fn new(apertures: &'a [Aperture], objects: &'a [Object], pieces: &'a [Piece]) -> Drawing<'a>
-        ensures apertures { result.apertures.now ≡ apertures.now }
-        ensures objects { result.objects.now ≡ objects.now }
-        ensures pieces { result.pieces.now ≡ pieces.now }
+    pub fn new(records: Records<'a>) -> Drawing<'a>
+        ensures { result.records ≡ records.entry }
     {
         Drawing {
-            apertures,
-            objects,
-            pieces,
-            weights: weigh_all(apertures, objects),
+            records,
+            weights: weigh_all(records.apertures, records.objects),
         }
     }
 }

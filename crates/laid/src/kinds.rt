@@ -17,10 +17,12 @@ pub struct Flash {
 pub struct PlacedObject {
     pub object: Object,
     pub placing: Placing,
+    // a flag: the placing is there whether the polarity is turned or not
     pub turn: bool,
 }
 
-/// How far a copy of a step and repeat is moved.
+/// How far a copy of a step and repeat is moved. Points, ways and shifts are types of their own, since
+/// their limits differ.
 #[derive(Clone, Copy)]
 pub struct Shift {
     pub x: u32,
@@ -35,13 +37,7 @@ pub struct Frame {
     pub next: usize,
     pub block: usize,
     pub placing: Placing,
+    // a flag: the placing is there whether the polarity is turned or not
     pub turn: bool,
     ghost low: { block ≤ 128 },
-}
-
-/// An object of a block, and the block's frame behind it.
-#[derive(Clone, Copy)]
-pub(crate) struct Step {
-    pub(crate) object: Object,
-    pub(crate) frame: Frame,
 }

@@ -8,23 +8,15 @@ use records::kinds::Repeat;
 // No copy is moved further than this, in ticks.
 const FAR: u64 = 60_000;
 
-fn within(ticks: u64) -> Option<u32>
-    ensures { result ≡ moved ticks }
-{
-    if ticks <= FAR {
-        Some(ticks as u32)
-    } else {
-        None
-    }
-}
-
 // How far copy number `count` is moved along an axis.
 fn along(count: u32, step: u64) -> Option<u32>
     ensures { result ≡ moved (count * step) }
 {
-    match (count as u64).checked_mul(step) {
-        Some(ticks) => within(ticks),
-        None => None,
+    let ticks = (count as u64).checked_mul(step)?;
+    if ticks <= FAR {
+        Some(ticks as u32)
+    } else {
+        None
     }
 }
 

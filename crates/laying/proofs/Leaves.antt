@@ -1,85 +1,86 @@
 -- what laying leaves, one thing after another
 use Rattle.std.proofs.Common.{◌≡◌, ℕ, ◌<◌, Bool, true, false, cond, ◌&&◌, List, [], ◌∷◌, ◌++◌, ℤ, sym, refl, ap, ◌∙◌, subst}
-use Rattle.film.specs.Film.{Beside, Meaning}
 use Rattle.film.specs.Frame.{Frame, centre_x, centre_y}
-use Rattle.film.specs.Made.{window_on}
 use Rattle.film.specs.declared.window.Window.{Window}
 use Rattle.laid.specs.Covered.{covers_pixel, covers_point, shown_by}
 use Rattle.laid.specs.Laid.{LaidObject, LaidOutline}
-use Rattle.laying.specs.Lays.{Exposed, Lays, single}
-use Rattle.paint.specs.Painted.{in_window}
+use Rattle.laying.specs.Lays.{Lays, single}
+use Rattle.paint.specs.Painted.{centre_covered, in_window}
+use Rattle.paint.specs.Panes.{PaneSeen, Repainted}
 
 shown_append : (f : Frame) (v : Window) (c r : ℕ) (before : Bool) (os ps : List LaidObject) → shown_by f v c r before (os ++ ps) ≡ shown_by f v c r (shown_by f v c r before os) ps
 shown_append f v c r before [] ps = refl
 shown_append f v c r before (o ∷ os) ps = shown_append f v c r (cond (covers_pixel f v o c r) o.dark before) os ps
 
-module _ (v : Window) where
-  -- nothing is laid
-  pub lays_none : (m : Meaning) (b : Beside) → Lays m b v [] m b
-  lays_none m b = record { laid = record { frame = refl; pixels = λ c r i j. refl }; beside = refl }
+-- nothing is laid
+pub lays_none : (p : PaneSeen) → Lays p [] p
+lays_none p = record { laid = record { frame = refl; pixels = λ c r i j. refl }; beside = refl; window = refl; film = refl }
 
-  -- these, and then those
-  pub lays_after : {m l n : Meaning} {a b c : Beside} {os ps : List LaidObject} → Lays m a v os l b → Lays l b v ps n c → Lays m a v (os ++ ps) n c
-  lays_after {m} {l} {n} {a} {b} {c} {os} {ps} p q =
-      record {
-        laid = record {
-          frame = q.laid.frame ∙ p.laid.frame;
-          pixels = λ k r i j.
-              let i2 : k < l.frame.width = subst (λ (f : Frame). k < f.width) (sym p.laid.frame) i in
-              let j2 : r < l.frame.height = subst (λ (f : Frame). r < f.height) (sym p.laid.frame) j in
-              q.laid.pixels k r i2 j2
-              ∙ ap (λ (f : Frame). shown_by f v k r (l.pixel k r) ps) p.laid.frame
-              ∙ ap (λ (t : Bool). shown_by m.frame v k r t ps) (p.laid.pixels k r i j)
-              ∙ sym (shown_append m.frame v k r (m.pixel k r) os ps);
-        };
-        beside = q.beside ∙ p.beside;
-      }
+-- these, and then those
+pub lays_after : {p l q : PaneSeen} {os ps : List LaidObject} → Lays p os l → Lays l ps q → Lays p (os ++ ps) q
+lays_after {p} {l} {q} {os} {ps} a b =
+    record {
+      laid = record {
+        frame = b.laid.frame ∙ a.laid.frame;
+        pixels = λ k r i j.
+            let m = p.meaning in
+            let i2 : k < l.meaning.frame.width = subst (λ (f : Frame). k < f.width) (sym a.laid.frame) i in
+            let j2 : r < l.meaning.frame.height = subst (λ (f : Frame). r < f.height) (sym a.laid.frame) j in
+            b.laid.pixels k r i2 j2
+            ∙ ap (λ (f : Frame). shown_by f l.window k r (l.meaning.pixel k r) ps) a.laid.frame
+            ∙ ap (λ (v : Window). shown_by m.frame v k r (l.meaning.pixel k r) ps) a.window
+            ∙ ap (λ (t : Bool). shown_by m.frame p.window k r t ps) (a.laid.pixels k r i j)
+            ∙ sym (shown_append m.frame p.window k r (m.pixel k r) os ps);
+      };
+      beside = b.beside ∙ a.beside;
+      window = b.window ∙ a.window;
+      film = b.film ∙ a.film;
+    }
 
-  -- the same list under another name
-  pub lays_same : {m n : Meaning} {b c : Beside} {os ps : List LaidObject} → os ≡ ps → Lays m b v os n c → Lays m b v ps n c
-  lays_same {m} {n} {b} {c} e p = subst (λ (os : List LaidObject). Lays m b v os n c) e p
+-- the same list under another name
+pub lays_same : {p q : PaneSeen} {os ps : List LaidObject} → os ≡ ps → Lays p os q → Lays p ps q
+lays_same {p} {q} e h = subst (λ (os : List LaidObject). Lays p os q) e h
 
-  -- the window stays on the film
-  pub lays_window : {m n : Meaning} {b c : Beside} {os : List LaidObject} → Lays m b v os n c → window_on m.frame v ≡ true → window_on n.frame v ≡ true
-  lays_window p h = ap (λ (f : Frame). window_on f v) p.laid.frame ∙ h
+-- a shape is painted
+pub painted_lays : {p q : PaneSeen} {covered : ℤ → ℤ → Bool} {dark : Bool} (o : LaidOutline) → ((x y : ℤ) → covered x y ≡ covers_point o x y)
+    → Repainted p (λ c r. in_window p.window c r && centre_covered p.meaning covered c r) dark q → Lays p (single dark o) q
+painted_lays {p} {q} {covered} {dark} o e h =
+    let m = p.meaning in
+    record {
+      laid = record {
+        frame = h.painted.frame;
+        pixels = λ k r i j. h.painted.pixels k r i j ∙ ap (λ (t : Bool). cond (in_window p.window k r && t) dark (m.pixel k r)) (e (centre_x m.frame k) (centre_y m.frame r));
+      };
+      beside = h.beside;
+      window = h.window;
+      film = h.film;
+    }
 
-  -- a shape is painted
-  pub exposed_lays : {m n : Meaning} {b c : Beside} {covered : ℤ → ℤ → Bool} {dark : Bool} (o : LaidOutline) → ((x y : ℤ) → covered x y ≡ covers_point o x y)
-      → Exposed m b v covered dark n c → Lays m b v (single dark o) n c
-  exposed_lays {m} {n} {b} {c} {covered} {dark} o e p =
-      record {
-        laid = record {
-          frame = p.painted.frame;
-          pixels = λ k r i j. p.painted.pixels k r i j ∙ ap (λ (t : Bool). cond (in_window v k r && t) dark (m.pixel k r)) (e (centre_x m.frame k) (centre_y m.frame r));
-        };
-        beside = p.beside;
-      }
+-- an object that covers nothing
+pub unseen_lays : (p : PaneSeen) (dark : Bool) (o : LaidOutline) → ((x y : ℤ) → covers_point o x y ≡ false) → Lays p (single dark o) p
+unseen_lays p dark o e =
+    let m = p.meaning in
+    record {
+      laid = record {
+        frame = refl;
+        pixels = λ k r i j.
+            sym (ap (λ (t : Bool). cond (in_window p.window k r && t) dark (m.pixel k r)) (e (centre_x m.frame k) (centre_y m.frame r)) ∙ never (in_window p.window k r) dark (m.pixel k r));
+      };
+      beside = refl;
+      window = refl;
+      film = refl;
+    }
+  where
+    never : (t d p : Bool) → cond (t && false) d p ≡ p
+    never true d p = refl
+    never false d p = refl
 
-  -- an object that covers nothing
-  pub unseen_lays : (m : Meaning) (b : Beside) (dark : Bool) (o : LaidOutline) → ((x y : ℤ) → covers_point o x y ≡ false) → Lays m b v (single dark o) m b
-  unseen_lays m b dark o e =
-      record {
-        laid = record {
-          frame = refl;
-          pixels = λ k r i j. sym (ap (λ (t : Bool). cond (in_window v k r && t) dark (m.pixel k r)) (e (centre_x m.frame k) (centre_y m.frame r)) ∙ never (in_window v k r) dark (m.pixel k r));
-        };
-        beside = refl;
-      }
-    where
-      never : (t d p : Bool) → cond (t && false) d p ≡ p
-      never true d p = refl
-      never false d p = refl
+-- what is laid from l on completes what is laid from p on
+abbrev pub Leads : PaneSeen → List LaidObject → PaneSeen → List LaidObject → Type 0
+Leads p os l ps = (q : PaneSeen) → Lays l ps q → Lays p os q
 
--- what is laid from l on, with a beside it, completes what is laid from m on, with b beside it
-abbrev pub Leads : Window → Meaning → Beside → List LaidObject → Meaning → Beside → List LaidObject → Type 0
-Leads v m b os l a ps = (n : Meaning) (c : Beside) → Lays l a v ps n c → Lays m b v os n c
+pub leads_more : {p l k : PaneSeen} {os ps qs rs : List LaidObject} → Leads p os l ps → ps ≡ qs ++ rs → Lays l qs k → Leads p os k rs
+leads_more f e h q r = f q (lays_same (sym e) (lays_after h r))
 
-module _ (v : Window) where
-  pub leads_start : (m : Meaning) (b : Beside) (os : List LaidObject) → Leads v m b os m b os
-  leads_start m b os n c p = p
-
-  pub leads_more : {m l k : Meaning} {b a d : Beside} {os ps qs rs : List LaidObject} → Leads v m b os l a ps → ps ≡ qs ++ rs → Lays l a v qs k d → Leads v m b os k d rs
-  leads_more f e p n c q = f n c (lays_same v (sym e) (lays_after v p q))
-
-  pub leads_end : {m n : Meaning} {b c : Beside} {os ps : List LaidObject} → Leads v m b os n c ps → ps ≡ [] → Lays m b v os n c
-  leads_end {n = n} {c = c} f e = f n c (lays_same v (sym e) (lays_none v n c))
+pub leads_end : {p q : PaneSeen} {os ps : List LaidObject} → Leads p os q ps → ps ≡ [] → Lays p os q
+leads_end {q = q} f e = f q (lays_same (sym e) (lays_none q))

@@ -76,19 +76,19 @@ module _ (d : Drawing) where
   unfolding from_number laid_objects
   from_start_lem = refl
 
-  pub from_more : (i : ℕ) (x : Object) → i < length d.objects.now → x ≡ get_or d.objects.now i x → from_number d i ≡ numbered d i x ++ from_number d (i + 1)
+  pub from_more : (i : ℕ) (x : Object) → i < length d.records.objects.now → x ≡ get_or d.records.objects.now i x → from_number d i ≡ numbered d i x ++ from_number d (i + 1)
   unfolding from_number numbered
   from_more i x h e =
-      let os = d.objects.now in
+      let os = d.records.objects.now in
       let F : ℕ → List ObjectSeen → List LaidObject = lay_from (apertures_of d) (objects_of d) (pieces_in d) 8 in
       ap (F i) (drop-map seen_object i os)
       ∙ at_drop_more (λ (l : List Object). F i (map seen_object l)) os i x h
       ∙ ap (λ (o : Object). numbered d i o ++ F (i + 1) (map seen_object (drop (i + 1) os))) (sym e)
       ∙ ap (λ (l : List ObjectSeen). numbered d i x ++ F (i + 1) l) (sym (drop-map seen_object (i + 1) os))
 
-  pub from_end : (i : ℕ) → length d.objects.now ≤ i → from_number d i ≡ []
+  pub from_end : (i : ℕ) → length d.records.objects.now ≤ i → from_number d i ≡ []
   unfolding from_number
   from_end i h =
-      let os = d.objects.now in
+      let os = d.records.objects.now in
       let F : List ObjectSeen → List LaidObject = lay_from (apertures_of d) (objects_of d) (pieces_in d) 8 i in
       ap F (drop-map seen_object i os) ∙ at_drop_all (λ (l : List Object). F (map seen_object l)) os i h

@@ -1,5 +1,5 @@
 -- the pieces of a contour
-use Rattle.std.proofs.Common.{◌≡◌, ℕ, zero, suc, ◌-◌, ◌<◌, ◌≤◌, Bool, true, false, cond, List, [], ◌∷◌, map, length, take, drop, ℤ, Some, None, Option, sym, refl, ap, ◌∙◌, arith}
+use Rattle.std.proofs.Common.{◌≡◌, ℕ, Bool, true, false, cond, List, [], ◌∷◌, map, take, drop, ℤ, Some, None, Option, sym, refl, ap, ◌∙◌, arith}
 use Rattle.contour.specs.Chain.{contour_at, in_contour, last_of}
 use Rattle.contour.specs.Closed.{closed_from, ends_at}
 use Rattle.contour.specs.declared.pieces.Piece.{Piece}
@@ -10,27 +10,10 @@ use Rattle.laid.specs.Covered.{covers_point}
 use Rattle.laid.specs.Laid.{closed_only, contour}
 use Rattle.laid.specs.Puts.{put_at, seen_placing}
 use Rattle.plane.specs.Plane.{At, same}
-use Rattle.plane.specs.declared.points.FilePoint.{FilePoint}
 use Rattle.plane.specs.declared.points.Placing.{Placing}
-use Rattle.plane.specs.Points.{file_point_at}
+use Rattle.plane.specs.Points.{FilePoint, file_point_at}
 use Rattle.records.specs.Records.{seen_piece}
-use Rattle.std.proofs.lemmas.List.{drop_all, drop-map, length-drop, take_all, take-map}
-
-pub all_of : (ps : List Piece) (first n : ℕ) → length ps - first ≤ n → take n (drop first ps) ≡ drop first ps
-all_of ps first n h = let l : length (drop first ps) ≤ n = simp length-drop (omega arith) in take_all n (drop first ps) l
-
-pub few_of : (ps : List Piece) (first n : ℕ) → length (take (length ps - first) (drop first ps)) < n → length ps - first ≤ n
-few_of ps first n h =
-    let e = ap length (all_of ps first (length ps - first) (omega arith)) in
-    let l = length-drop first ps in
-    omega arith
-
-pub no_pieces : (ps : List Piece) (first n : ℕ) → length ps ≤ first → take n (drop first ps) ≡ []
-no_pieces ps first n h = ap (take n) (drop_all first ps h) ∙ none n
-  where
-    none : (n : ℕ) → take {A = Piece} n [] ≡ []
-    none zero = refl
-    none (suc n) = refl
+use Rattle.std.proofs.lemmas.List.{drop-map, take-map}
 
 -- the same of the pieces as plain points
 pub seen_part : (ps : List Piece) (first n : ℕ) (part : List Piece) → part ≡ take n (drop first ps) → map seen_piece part ≡ take n (drop first (map seen_piece ps))

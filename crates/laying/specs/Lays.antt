@@ -1,27 +1,24 @@
--- What laying objects leaves on a film, and beside it.
+-- What laying objects leaves on a pane of a film.
 use Rattle.film.specs.Faults.{call, film_told}
-use Rattle.film.specs.Film.{Beside, Meaning}
+use Rattle.film.specs.Film.{Meaning}
 use Rattle.film.specs.Made.{window_on}
 use Rattle.film.specs.declared.fault.FilmFault.{FilmFault}
 use Rattle.film.specs.declared.window.Window.{Window}
 use Rattle.laid.specs.Covered.{LaidOn}
 use Rattle.laid.specs.Laid.{LaidObject, LaidOutline}
-use Rattle.paint.specs.Painted.{Painted, centre_covered, in_window}
-use Rattle.std.specs.Prelude.{◌≡◌, Bool, true, false, ◌&&◌, List, [], ◌∷◌, ℤ, Ok, Err, Result}
-
--- A film m with b beside it is n with c beside it, once the points that are covered are painted within the window v.
-pub record Exposed (m : Meaning) (b : Beside) (v : Window) (covered : ℤ → ℤ → Bool) (dark : Bool) (n : Meaning) (c : Beside) : Type 0 where
-  pub painted : Painted m (λ k r. in_window v k r && centre_covered m covered k r) dark n
-  pub beside : c ≡ b
+use Rattle.paint.specs.Panes.{PaneSeen}
+use Rattle.std.specs.Prelude.{◌≡◌, Bool, true, false, List, [], ◌∷◌, Ok, Err, Result}
 
 -- One laid object.
 abbrev pub single : Bool → LaidOutline → List LaidObject
 single dark o = record { dark = dark; outline = o } ∷ []
 
--- The same, once these objects are laid within the window v.
-pub record Lays (m : Meaning) (b : Beside) (v : Window) (os : List LaidObject) (n : Meaning) (c : Beside) : Type 0 where
-  pub laid : LaidOn m v os n
-  pub beside : c ≡ b
+-- A pane p is q, once these objects are laid on it.
+pub record Lays (p : PaneSeen) (os : List LaidObject) (q : PaneSeen) : Type 0 where
+  pub laid : LaidOn p.meaning p.window os q.meaning
+  pub beside : q.beside ≡ p.beside
+  pub window : q.window ≡ p.window
+  pub film : q.film ≡ p.film
 
 -- Laying these objects within a window of the film m answers r and leaves n: within a good window they are laid; a
 -- window that is empty or past the edge is refused with 3, and nothing changes.

@@ -1,5 +1,6 @@
-use Rattle.std.proofs.Common.{ℕ, ◌+◌, ◌*◌, ◌/◌, ◌<◌, ◌≤◌, nat_abs, mod-lt, mul_comm, mul-le-mul_left, mul-add, arith}
-use Rattle.film.specs.Frame.{Frame, Limits, centre_x, centre_y}
+use Rattle.std.proofs.Common.{◌≡◌, ℕ, ◌+◌, ◌-◌, ◌*◌, ◌/◌, ◌<◌, ◌≤◌, nat_abs, mod-lt, mul_comm, mul-le-mul_left, mul-add, arith}
+use Rattle.film.specs.Frame.{Frame, Limits}
+use Rattle.paint.specs.Axes.{middle_of}
 use Rattle.std.proofs.lemmas.Int.{ints}
 use native.Mathlib.Nat.{div-add-mod}
 
@@ -17,9 +18,14 @@ past_div p d k h l =
 pub small_middle : (p n count : ℕ) → n < count → count * p ≤ 60000 → p * n ≤ 60000
 small_middle p n count h l = let s : n ≤ count = omega arith in omega (arith, mul-le-mul_left p s, mul_comm p count)
 
--- a centre is a point that shapes answer for
-pub column_near : (f : Frame) → Limits f → (c : ℕ) → c < f.width → nat_abs (centre_x f c) ≤ 1000000
-column_near f l c h = let a = (l.columns c h).0 in let b = (l.columns c h).1 in omega (arith, ints)
+-- the middles of a film's columns and rows are points that shapes answer for
+pub column_near : (f : Frame) → Limits f → (k : ℕ) → k < f.width → nat_abs (middle_of f.ox f.pitch k) ≤ 1000000
+column_near f l k h = let a = (l.columns k h).0 in let b = (l.columns k h).1 in omega (arith, ints)
 
-pub row_near : (f : Frame) → Limits f → (r : ℕ) → r < f.height → nat_abs (centre_y f r) ≤ 1000000
-row_near f l r h = let a = (l.rows r h).0 in let b = (l.rows r h).1 in omega (arith, ints)
+pub row_near : (f : Frame) → Limits f → (k : ℕ) → k < f.height → nat_abs (middle_of f.oy f.pitch k) ≤ 1000000
+row_near f l k h =
+    let r : f.height - 1 - k < f.height = omega arith in
+    let same : f.height - 1 - (f.height - 1 - k) ≡ k = omega arith in
+    let a = rw same at (l.rows (f.height - 1 - k) r).0 in
+    let b = rw same at (l.rows (f.height - 1 - k) r).1 in
+    omega (arith, ints)

@@ -1,62 +1,85 @@
-use Rattle.std.proofs.Common.{◌≡◌, ℕ, ◌+◌, ◌<◌, ◌≤◌, Bool, true, false, cond, ◌&&◌, ℤ, refl, ap, ◌∙◌, arith}
-use Rattle.film.specs.Film.{Meaning, in_span}
+use Rattle.std.proofs.Common.{◌≡◌, ℕ, ◌+◌, ◌-◌, ◌<◌, ◌≤◌, min, Bool, true, false, cond, ◌&&◌, ℤ, sym, refl, ap, ◌∙◌, subst, arith}
+use Rattle.film.specs.Film.{in_span}
 use Rattle.film.specs.Frame.{Frame, centre_x, centre_y}
 use Rattle.film.specs.Made.{window_on}
 use Rattle.film.specs.declared.window.Window.{Window}
-use Rattle.paint.specs.Painted.{Clipped, Painted, in_area, in_window}
+use Rattle.paint.specs.Painted.{Clipped, centre_covered, in_area, in_window}
+use Rattle.paint.specs.Panes.{PaneSeen, Repainted, on_film}
 use Rattle.paint.specs.declared.area.Area.{Area}
 use Rattle.plane.specs.declared.points.Bounds.{Bounds}
 use Rattle.shapes.specs.Box.{Encloses}
 use Rattle.std.proofs.lemmas.Bool.Decides.{nat_tests}
 
 -- what one painting and then another leave
-module _ (m l n : Meaning) (p q s : ℕ → ℕ → Bool) (d : Bool) where
-  pub painted_after : Painted m p d l → Painted l q d n → ((c r : ℕ) → c < m.frame.width → r < m.frame.height → cond (q c r) d (cond (p c r) d (m.pixel c r)) ≡ cond (s c r) d (m.pixel c r)) → Painted m s d n
-  painted_after a b h = record {
-    frame = b.frame ∙ a.frame;
-    pixels = λ c r i j.
-        let i' : c < l.frame.width = rw a.frame i in
-        let j' : r < l.frame.height = rw a.frame j in
-        b.pixels c r i' j' ∙ ap (λ z. cond (q c r) d z) (a.pixels c r i j) ∙ h c r i j;
-  }
+module _ (m l n : PaneSeen) (p q s : ℕ → ℕ → Bool) (d : Bool) where
+  pub repainted_after : Repainted m p d l → Repainted l q d n
+      → ((c r : ℕ) → cond (q c r) d (cond (p c r) d (m.meaning.pixel c r)) ≡ cond (s c r) d (m.meaning.pixel c r)) → Repainted m s d n
+  repainted_after a b h =
+      record {
+        painted = record {
+          frame = b.painted.frame ∙ a.painted.frame;
+          pixels = λ c r i j.
+              let i' : c < l.meaning.frame.width = rw a.painted.frame i in
+              let j' : r < l.meaning.frame.height = rw a.painted.frame j in
+              b.painted.pixels c r i' j' ∙ ap (λ z. cond (q c r) d z) (a.painted.pixels c r i j) ∙ h c r;
+        };
+        beside = b.beside ∙ a.beside;
+        window = b.window ∙ a.window;
+        film = b.film ∙ a.film;
+      }
 
 -- the same pixels under another test
-pub painted_same : (m n : Meaning) (p q : ℕ → ℕ → Bool) (d : Bool) → Painted m p d n → ((c r : ℕ) → c < m.frame.width → r < m.frame.height → p c r ≡ q c r) → Painted m q d n
-painted_same m n p q d a h = record { frame = a.frame; pixels = λ c r i j. a.pixels c r i j ∙ ap (λ b. cond b d (m.pixel c r)) (h c r i j) }
+pub repainted_same : (m n : PaneSeen) (p q : ℕ → ℕ → Bool) (d : Bool) → Repainted m p d n → ((c r : ℕ) → p c r ≡ q c r) → Repainted m q d n
+repainted_same m n p q d a h =
+    record {
+      painted = record { frame = a.painted.frame; pixels = λ c r i j. a.painted.pixels c r i j ∙ ap (λ b. cond b d (m.meaning.pixel c r)) (h c r) };
+      beside = a.beside;
+      window = a.window;
+      film = a.film;
+    }
 
 -- nothing painted
-pub painted_none : (m : Meaning) (p : ℕ → ℕ → Bool) (d : Bool) → ((c r : ℕ) → p c r ≡ false) → Painted m p d m
-painted_none m p d h = record { frame = refl; pixels = λ c r i j. rw (h c r) }
+pub repainted_none : (m : PaneSeen) (p : ℕ → ℕ → Bool) (d : Bool) → ((c r : ℕ) → p c r ≡ false) → Repainted m p d m
+repainted_none m p d h =
+    record { painted = record { frame = refl; pixels = λ c r i j. rw (h c r) }; beside = refl; window = refl; film = refl }
 
-module _ (cov : ℕ → ℕ → Bool) (row : ℕ) (d : Bool) (m : Meaning) where
+module _ (cov : ℕ → ℕ → Bool) (row : ℕ) (d : Bool) (m : PaneSeen) where
   -- no column yet
-  pub row_none : (first : ℕ) → Painted m (λ c r. in_span row first first c r && cov c r) d m
-  row_none first = painted_none m _ d (λ c r. grind (arith, nat_tests))
+  pub row_none : (first : ℕ) → Repainted m (λ c r. in_span row first first c r && cov c r) d m
+  row_none first = repainted_none m _ d (λ c r. grind (arith, nat_tests))
 
   -- the columns up to start are right, those from start to col are all covered and now written
-  pub row_join : (first start col : ℕ) (l n : Meaning) → first ≤ start → start ≤ col → Painted m (λ c r. in_span row first start c r && cov c r) d l → ((k : ℕ) → start ≤ k → k < col → cov k row ≡ true) → Painted l (in_span row start col) d n → Painted m (λ c r. in_span row first col c r && cov c r) d n
-  row_join first start col l n a b p h w = painted_after m l n (λ c r. in_span row first start c r && cov c r) (in_span row start col) (λ c r. in_span row first col c r && cov c r) d p w (λ c r i j. let k = h c in grind (arith, nat_tests))
+  pub row_join : (first start col : ℕ) (l n : PaneSeen) → first ≤ start → start ≤ col → Repainted m (λ c r. in_span row first start c r && cov c r) d l → ((k : ℕ) → start ≤ k → k < col → cov k row ≡ true) → Repainted l (in_span row start col) d n → Repainted m (λ c r. in_span row first col c r && cov c r) d n
+  row_join first start col l n a b p h w = repainted_after m l n (λ c r. in_span row first start c r && cov c r) (in_span row start col) (λ c r. in_span row first col c r && cov c r) d p w (λ c r. let k = h c in grind (arith, nat_tests))
 
   -- one column more that is not covered
-  pub row_skip : (first col : ℕ) (n : Meaning) → first ≤ col → Painted m (λ c r. in_span row first col c r && cov c r) d n → cov col row ≡ false → Painted m (λ c r. in_span row first (col + 1) c r && cov c r) d n
-  row_skip first col n a p h = painted_same m n _ _ d p (λ c r i j. grind (arith, nat_tests))
+  pub row_skip : (first col : ℕ) (n : PaneSeen) → first ≤ col → Repainted m (λ c r. in_span row first col c r && cov c r) d n → cov col row ≡ false → Repainted m (λ c r. in_span row first (col + 1) c r && cov c r) d n
+  row_skip first col n a p h = repainted_same m n _ _ d p (λ c r. grind (arith, nat_tests))
 
-module _ (cov : ℕ → ℕ → Bool) (first end : ℕ) (d : Bool) (m : Meaning) where
+module _ (cov : ℕ → ℕ → Bool) (first end : ℕ) (d : Bool) (m : PaneSeen) where
   -- no row yet
-  pub rows_none : (top : ℕ) → Painted m (λ c r. in_area first end top top c r && cov c r) d m
-  rows_none top = painted_none m _ d (λ c r. grind (arith, nat_tests))
+  pub rows_none : (top : ℕ) → Repainted m (λ c r. in_area first end top top c r && cov c r) d m
+  rows_none top = repainted_none m _ d (λ c r. grind (arith, nat_tests))
 
   -- one row more
-  pub rows_more : (top row : ℕ) (l n : Meaning) → top ≤ row → Painted m (λ c r. in_area first end top row c r && cov c r) d l → Painted l (λ c r. in_span row first end c r && cov c r) d n → Painted m (λ c r. in_area first end top (row + 1) c r && cov c r) d n
-  rows_more top row l n a p w = painted_after m l n (λ c r. in_area first end top row c r && cov c r) (λ c r. in_span row first end c r && cov c r) (λ c r. in_area first end top (row + 1) c r && cov c r) d p w (λ c r i j. grind (arith, nat_tests))
+  pub rows_more : (top row : ℕ) (l n : PaneSeen) → top ≤ row → Repainted m (λ c r. in_area first end top row c r && cov c r) d l → Repainted l (λ c r. in_span row first end c r && cov c r) d n → Repainted m (λ c r. in_area first end top (row + 1) c r && cov c r) d n
+  rows_more top row l n a p w = repainted_after m l n (λ c r. in_area first end top row c r && cov c r) (λ c r. in_span row first end c r && cov c r) (λ c r. in_area first end top (row + 1) c r && cov c r) d p w (λ c r. grind (arith, nat_tests))
 
--- a window on the film, in numbers
-pub record WindowFits (f : Frame) (v : Window) : Type 0 where
-  pub columns : v.x + v.width ≤ f.width
-  pub rows : v.y + v.height ≤ f.height
+-- the centre of a pixel is covered, by the numbers that the film tells
+pub covered_by : (f g : Frame) (covered : ℤ → ℤ → Bool) (c r : ℕ) {x y : ℤ} {b : Bool} → f ≡ g → x ≡ centre_x f c → y ≡ centre_y f r → b ≡ covered x y → covered (centre_x g c) (centre_y g r) ≡ b
+covered_by f g covered c r {b = b} e x y is =
+    subst (λ h. covered (centre_x h c) (centre_y h r) ≡ b) e (sym (λ i. covered (x i) (y i)) ∙ sym is)
 
-pub window_fits : (f : Frame) (v : Window) → window_on f v ≡ true → WindowFits f v
-window_fits f v h = record { columns = grind (arith, nat_tests); rows = grind (arith, nat_tests) }
+-- all of a window that is on the film
+pub on_film_same : (f : Frame) (v : Window) → window_on f v ≡ true → on_film f v ≡ v
+on_film_same f v h =
+    let across : v.x + v.width ≤ f.width = grind (arith, nat_tests) in
+    let down : v.y + v.height ≤ f.height = grind (arith, nat_tests) in
+    let x : min v.x f.width ≡ v.x = omega arith in
+    let y : min v.y f.height ≡ v.y = omega arith in
+    let width : min v.width (f.width - min v.x f.width) ≡ v.width = omega arith in
+    let height : min v.height (f.height - min v.y f.height) ≡ v.height = omega arith in
+    λ i. record { x = x i; y = y i; width = width i; height = height i }
 
 -- an area within a window that holds a pixel wherever the window does
 same_areas : (v : Window) (a : Area) (c r : ℕ) → v.x ≤ a.first → (a.first < a.end → a.end ≤ v.x + v.width) → v.y ≤ a.top → (a.top < a.foot → a.foot ≤ v.y + v.height)
@@ -74,3 +97,12 @@ clipped_same f v b a covered k e c r =
       | false ↦ (λ h. grind (arith, nat_tests))
     ]
     in go (covered (centre_x f c) (centre_y f r)) refl
+
+-- painting what a box reaches of a pane's window paints all that is covered there
+pub reached : (p q : PaneSeen) (f : Frame) (b s : Bounds) (a : Area) (covered : ℤ → ℤ → Bool) (d : Bool) → f ≡ p.meaning.frame → b ≡ s → Encloses covered s → Clipped f p.window b a
+    → Repainted p (λ c r. in_area a.first a.end a.top a.foot c r && centre_covered p.meaning covered c r) d q
+    → Repainted p (λ c r. in_window p.window c r && centre_covered p.meaning covered c r) d q
+reached p q f b s a covered d told is e k h =
+    let here = subst (λ (f : Frame). Clipped f p.window b a) told k in
+    let encloses = subst (Encloses covered) (sym is) e in
+    repainted_same p q _ _ d h (clipped_same p.meaning.frame p.window b a covered here encloses)

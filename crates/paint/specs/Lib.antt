@@ -1,1 +1,3 @@
+pub mod Axes
 pub mod Painted
+pub mod Panes

@@ -7,6 +7,7 @@ mod tests {
     use bitmap::bitmap::Bitmap;
     use film::fault::FilmFault;
     use film::film::Film;
+    use film::grid::Grid;
     use film::window::Window;
     use paint::painting::paint;
     use piles::mirror::Mirror;
@@ -26,25 +27,27 @@ mod tests {
     // A clear film of ten by ten pixels, 20 ticks each, with its corner at (100, 100).
     fn ten(rt: &HostRuntime) -> Result<Bitmap, Fail> {
         let memory = vec![in rt.alloc(); 0u8; 20]?;
-        match Bitmap::new(memory, 10, 10, 20, 100, 100) {
-            Ok(film) => Ok(film),
-            Err(_) => Err(Fail::new("no film")),
-        }
+        let grid = Grid {
+            width: 10,
+            height: 10,
+            pitch: 20,
+            ox: 100,
+            oy: 100,
+        };
+        Bitmap::new(memory, grid).map_err(|_| Fail::new("no film"))
     }
 
     // The two bytes of a row.
     fn row<F: Film>(film: &F, row: u32) -> Result<[u8; 2], Fail> {
         let mut out = [0u8; 2];
-        match film.pack_row(row, &mut out) {
-            Ok(()) => Ok(out),
-            Err(_) => Err(Fail::new("no row")),
-        }
+        film.pack_row(row, &mut out)?;
+        Ok(out)
     }
 
     // Every row is as the ten of the table.
     fn rows_are<F: Film>(rt: &impl Abort, film: &F, rows: [[u8; 2]; 10]) -> Result<(), Fail> {
-        for (i, bytes) in rows.iter().enumerate() {
-            assert_eq!(rt; row(film, (i % 10) as u32)?, *bytes, "a row of the film");
+        for (i, bytes) in (0..10).zip(rows) {
+            assert_eq!(rt; row(film, i)?, bytes, "a row of the film");
         }
         Ok(())
     }
@@ -63,7 +66,7 @@ mod tests {
     #[test]
     fn a_circle_darkens_the_centres_that_it_covers(rt: HostRuntime) -> Result<(), Fail> {
         let mut film = ten(&rt)?;
-        assert!(rt; paint(&mut film, WHOLE, &dot(), true).is_ok());
+        paint(&mut film, WHOLE, &dot(), true)?;
         rows_are(
             &rt,
             &film,
@@ -86,7 +89,7 @@ mod tests {
             width: 5,
             height: 5,
         };
-        assert!(rt; paint(&mut film, upper_left, &dot(), true).is_ok());
+        paint(&mut film, upper_left, &dot(), true)?;
         rows_are(
             &rt,
             &film,
@@ -113,8 +116,8 @@ mod tests {
             a: Half { ticks: 5000 },
             b: Half { ticks: 50 },
         };
-        assert!(rt; paint(&mut film, WHOLE, &board, true).is_ok());
-        assert!(rt; paint(&mut film, WHOLE, &dot(), false).is_ok());
+        paint(&mut film, WHOLE, &board, true)?;
+        paint(&mut film, WHOLE, &dot(), false)?;
         let full = [0xff, 0xc0];
         let holed = [0xf3, 0xc0];
         rows_are(
@@ -164,10 +167,10 @@ mod tests {
             },
         ];
         for window in bad {
-            match paint(&mut film, window, &dot(), true) {
-                Err(FilmFault::Window) => (),
-                _ => return Err(Fail::new("a bad window is taken")),
-            }
+            assert_eq!(rt;
+                paint(&mut film, window, &dot(), true),
+                Err(FilmFault::Window)
+            );
         }
         let places = [
             Place {
@@ -188,7 +191,7 @@ mod tests {
                 place,
                 half: Half { ticks: 5000 },
             };
-            assert!(rt; paint(&mut film, WHOLE, &far, true).is_ok());
+            paint(&mut film, WHOLE, &far, true)?;
         }
         rows_are(&rt, &film, [CLEAR; 10])
     }

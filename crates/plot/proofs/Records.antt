@@ -112,12 +112,12 @@ module _ (f : Frame) (t : Tables) (v : Window) (xs : List ℕ) (d : Drawing) (ap
 
 -- an accepted plot
 module _ (m : Meaning) (t : Tables) (v : Window) (xs : List ℕ) (d : Drawing) (aps : List Aperture) (os : List Object) (ps : List Piece) where
-  pub plotted_accepted : {n : Meaning} {r : ℕ × ℕ} → Recorded (verdict m.frame (slots_of t) v xs) t (Ok d) (tables_of aps os ps)
+  pub plotted_accepted : {n : Meaning} {drawn laid : ℕ} → Recorded (verdict m.frame (slots_of t) v xs) t (Ok d) (tables_of aps os ps)
       → LaidOn m v (laid_objects (map seen_aperture (take d.apertures aps)) (map seen_object (take d.objects os)) (map seen_piece (take d.pieces ps))) n
-      → r ≡ (d.objects, d.laid) → Plotted m t v xs (Ok r) (tables_of aps os ps) n
+      → (drawn ≡ d.objects) × (laid ≡ d.laid) → Plotted m t v xs (Ok (drawn, laid)) (tables_of aps os ps) n
   plotted_accepted {n} h l e =
       record {
-        answered = ap Ok e ∙ numbered m.frame t v xs d aps os ps h;
+        answered = (λ i. Ok (e.0 i, e.1 i)) ∙ numbered m.frame t v xs d aps os ps h;
         shown = subst (λ z. Shows m (map (cover.laid v) z) n) (lays_is m.frame t v xs d aps os ps h) (laid_shows l);
         held = h.held;
       }

@@ -1,6 +1,7 @@
 -- One request after another.
-use Rattle.std.proofs.Common.{◌≡◌, ℕ, ◌+◌, ◌<◌, ◌≤◌, true, List, [], ◌∷◌, ◌++◌, map, length, get_or, sym, ap, ◌∙◌, subst}
-use Rattle.contour.specs.declared.pieces.Piece.{Piece}
+use Rattle.std.proofs.Common.{◌≡◌, ℕ, ◌+◌, ◌<◌, ◌≤◌, true, List, [], ◌∷◌, ◌++◌, map, length, get_or, sym, refl, ap, ◌∙◌, subst}
+use Rattle.drawing.specs.Slots.{SameSlots}
+use Rattle.drawing.specs.declared.reading.Slots.{Slots as Lent}
 use Rattle.film.specs.Film.{Meaning}
 use Rattle.film.specs.Made.{window_on}
 use Rattle.film.specs.declared.window.Window.{Window}
@@ -9,12 +10,10 @@ use Rattle.history.specs.Calls.{Tables, clear, slots_of}
 use Rattle.history.specs.History.{Served}
 use Rattle.history.specs.Tiles.{Exposed}
 use Rattle.history.specs.Verdicts.{entire}
-use Rattle.plot.specs.Requests.{asked, seen_answer, tables_of}
+use Rattle.plot.specs.Requests.{asked, seen_answer, tables_in}
 use Rattle.plot.specs.declared.requests.Answer.{Answer}
 use Rattle.plot.specs.declared.requests.Request.{Request}
 use Rattle.records.specs.Records.{seen_aperture, seen_object, seen_piece}
-use Rattle.records.specs.declared.kinds.Aperture.{Aperture}
-use Rattle.records.specs.declared.kinds.Object.{Object}
 use Rattle.std.proofs.lemmas.List.{get_or-map, length-map, map-append}
 
 -- the first i of the requests were served
@@ -24,13 +23,24 @@ Serving before t rs i answers now mid = Running before t (map (asked (slots_of t
 pub serving_none : (before : Meaning) (t : Tables) (rs : List Request) (answers : List Answer) → answers ≡ [] → Serving before t rs 0 answers t before
 serving_none before t rs answers e = subst (λ xs. Serving before t rs 0 xs t before) (sym e) (running_none before t (map (asked (slots_of t)) rs))
 
--- slices of as many slots
-pub same_slots : (aps aps' : List Aperture) (os os' : List Object) (ps ps' : List Piece) → length aps ≡ length aps' → length os ≡ length os' → length ps ≡ length ps' → slots_of (tables_of aps os ps) ≡ slots_of (tables_of aps' os' ps')
-same_slots aps aps' os os' ps ps' a o p =
+-- as many slots
+pub same_slots : (old new : Lent) → SameSlots old new → slots_of (tables_in new) ≡ slots_of (tables_in old)
+same_slots old new s =
     λ i. record {
-      apertures = (length-map aps seen_aperture ∙ a ∙ sym (length-map aps' seen_aperture)) i;
-      objects = (length-map os seen_object ∙ o ∙ sym (length-map os' seen_object)) i;
-      pieces = (length-map ps seen_piece ∙ p ∙ sym (length-map ps' seen_piece)) i;
+      apertures = (length-map new.apertures.now seen_aperture ∙ s.apertures.size ∙ sym (length-map old.apertures.now seen_aperture)) i;
+      objects = (length-map new.objects.now seen_object ∙ s.objects.size ∙ sym (length-map old.objects.now seen_object)) i;
+      pieces = (length-map new.pieces.now seen_piece ∙ s.pieces.size ∙ sym (length-map old.pieces.now seen_piece)) i;
+    }
+
+pub slots_stay : (s : Lent) → SameSlots s s
+slots_stay s = record { apertures = record { lent = refl; size = refl }; objects = record { lent = refl; size = refl }; pieces = record { lent = refl; size = refl } }
+
+pub slots_after : (a b c : Lent) → SameSlots a b → SameSlots b c → SameSlots a c
+slots_after a b c p q =
+    record {
+      apertures = record { lent = q.apertures.lent ∙ p.apertures.lent; size = q.apertures.size ∙ p.apertures.size };
+      objects = record { lent = q.objects.lent ∙ p.objects.lent; size = q.objects.size ∙ p.objects.size };
+      pieces = record { lent = q.pieces.lent ∙ p.pieces.lent; size = q.pieces.size ∙ p.pieces.size };
     }
 
 module _ (before : Meaning) (t : Tables) (rs : List Request) where

@@ -1,89 +1,59 @@
 // A list of requests, one after another.
 ghost use Rattle.std.specs.Prelude.{◌≡◌, ◌≤◌, [], map, length, vec_len, vec_capacity, MatchResult};
-ghost use Rattle.drawing.specs.Answers.{told_plot};
-ghost use Rattle.film.specs.Film.{read_of};
-ghost use Rattle.history.specs.Calls.{said_by, slots_of};
-ghost use Rattle.history.specs.History.{Served, said_of};
+ghost use Rattle.drawing.specs.Slots.{SameSlots};
+ghost use Rattle.history.specs.Calls.{slots_of};
+ghost use Rattle.history.specs.History.{Served};
 ghost use Rattle.history.specs.Tiles.{Exposed};
 ghost use Rattle.history.specs.Verdicts.{entire};
-ghost use Rattle.plot.specs.Requests.{asked, seen_answer, tables_of};
+ghost use Rattle.plot.specs.Requests.{asked, seen_answer, tables_in};
 
 use crate::blanking::blank;
 use crate::plotting::{whole, window_plot};
 use crate::requests::{Answer, Request};
-use contour::pieces::Piece;
-use drawing::fault::PlotFault;
+use drawing::reading::Slots;
 use film::film::Film;
 use film::window::Window;
-use records::kinds::{Aperture, Object};
 use std::alloc::{AllocError, Global};
-
-// The answer to a plot.
-fn answer_of(plotted: Result<(usize, u32), PlotFault>) -> Answer
-    ensures { seen_answer result ≡ said_by (told_plot plotted) }
-{
-    match plotted {
-        Ok((drawn, laid)) => Answer::Plotted { drawn, laid },
-        Err(fault) => Answer::Refused(fault),
-    }
-}
-
-// The answer to a reading.
-fn look_at<F: Film>(film: &F, column: u32, row: u32) -> Answer
-    ensures { seen_answer result ≡ said_of (read_of (F.meaning film.now) column row) }
-{
-    match film.read(column, row) {
-        Ok(dark) => Answer::Pixel(dark),
-        Err(fault) => Answer::Refused(PlotFault::Film(fault)),
-    }
-}
 
 // One request, with the whole film's window at hand.
 fn serve<F: Film>(
     film: &mut F,
     whole: Window,
-    apertures: &mut [Aperture],
-    objects: &mut [Object],
-    pieces: &mut [Piece],
+    slots: &mut Slots<'_>,
     request: &Request<'_>,
 ) -> Answer
     requires { whole ≡ entire (F.meaning film.old).frame }
-    ensures served { Served (F.meaning film.old) (tables_of apertures.old objects.old pieces.old) (asked (slots_of (tables_of apertures.old objects.old pieces.old)) request.now) (seen_answer result) (tables_of apertures.new objects.new pieces.new) (F.meaning film.new) }
+    ensures served { Served (F.meaning film.old) (tables_in slots.old) (asked (slots_of (tables_in slots.old)) request.now) (seen_answer result) (tables_in slots.new) (F.meaning film.new) }
     ensures beside { F.beside film.new ≡ F.beside film.old }
+    ensures lent { SameSlots slots.old slots.new }
 {
     match *request {
-        Request::Plot { file } => {
-            let plotted = window_plot(film, whole, file, apertures, objects, pieces);
-            answer_of(plotted)
-        }
-        Request::Window { window, file } => {
-            let plotted = window_plot(film, window, file, apertures, objects, pieces);
-            answer_of(plotted)
-        }
+        Request::Plot { file } => window_plot(film, whole, file, slots).into(),
+        Request::Window { window, file } => window_plot(film, window, file, slots).into(),
         Request::Blank => {
             blank(film);
             Answer::Blanked
         }
-        Request::Read { column, row } => look_at(film, column, row),
+        Request::Read { column, row } => film.read(column, row).into(),
     }
 }
 
 // The requests one after another, into answers that have room for them.
 fn serve_all<F: Film>(
     film: &mut F,
-    apertures: &mut [Aperture],
-    objects: &mut [Object],
-    pieces: &mut [Piece],
+    slots: &mut Slots<'_>,
     requests: &[Request<'_>],
     answers: &mut Vec<Answer>,
 )
     requires { (answers.old.items ≡ []) × ((vec_len answers.old ≡ 0) × (length requests.now ≤ vec_capacity answers.old)) }
-    ensures exposed { Exposed (F.meaning film.old) (tables_of apertures.old objects.old pieces.old) (map (asked (slots_of (tables_of apertures.old objects.old pieces.old))) requests.now) (map seen_answer answers.new.items) (tables_of apertures.new objects.new pieces.new) (F.meaning film.new) }
+    ensures exposed { Exposed (F.meaning film.old) (tables_in slots.old) (map (asked (slots_of (tables_in slots.old))) requests.now) (map seen_answer answers.new.items) (tables_in slots.new) (F.meaning film.new) }
     ensures beside { F.beside film.new ≡ F.beside film.old }
+    ensures lent { SameSlots slots.old slots.new }
 {
     let window = whole(film);
+    // A chain would change the film and the slots in its closure, and says nothing of them afterwards.
     for request in requests {
-        answers.push_reserved(serve(film, window, apertures, objects, pieces, request));
+        answers.push_reserved(serve(film, window, slots, request));
     }
 }
 
@@ -94,15 +64,14 @@ fn serve_all<F: Film>(
 pub fn expose<F: Film>(
     heap: Global,
     film: &mut F,
-    apertures: &mut [Aperture],
-    objects: &mut [Object],
-    pieces: &mut [Piece],
+    slots: &mut Slots<'_>,
     requests: &[Request<'_>],
 ) -> Result<Vec<Answer>, AllocError>
-    ensures exposed { MatchResult result (λ v. Exposed (F.meaning film.old) (tables_of apertures.old objects.old pieces.old) (map (asked (slots_of (tables_of apertures.old objects.old pieces.old))) requests.now) (map seen_answer v.items) (tables_of apertures.new objects.new pieces.new) (F.meaning film.new)) (λ e. (film.new ≡ film.old) × (apertures.new ≡ apertures.old) × (objects.new ≡ objects.old) × (pieces.new ≡ pieces.old)) }
+    ensures exposed { MatchResult result (λ v. Exposed (F.meaning film.old) (tables_in slots.old) (map (asked (slots_of (tables_in slots.old))) requests.now) (map seen_answer v.items) (tables_in slots.new) (F.meaning film.new)) (λ e. (film.new ≡ film.old) × (slots.new ≡ slots.old)) }
     ensures beside { F.beside film.new ≡ F.beside film.old }
+    ensures lent { SameSlots slots.old slots.new }
 {
     let mut answers = Vec::with_capacity(heap, requests.len())?;
-    serve_all(film, apertures, objects, pieces, requests, &mut answers);
+    serve_all(film, slots, requests, &mut answers);
     Ok(answers)
 }

@@ -6,49 +6,16 @@
 // error, and the program ends with status 1.
 #![tactic(auto)]
 
-mod card;
-mod listing;
-mod position;
-mod wording;
-
-use card::expose_card;
-use listing::list_commands;
-use std::alloc::AllocError;
+use sheet::size::Size;
+use std::env;
 use std::process::ExitCode;
-use std::{env, io};
-
-// What ends the program early.
-#[derive(Debug, Drop)]
-pub(crate) enum Stop {
-    // the reason has been told on standard error
-    Told,
-    // the output cannot be written
-    Output(io::Error),
-    // there is not enough memory
-    Memory,
-}
-
-impl From<AllocError> for Stop {
-    fn from(_: AllocError) -> Stop {
-        Stop::Memory
-    }
-}
-
-impl From<io::Error> for Stop {
-    fn from(e: io::Error) -> Stop {
-        Stop::Output(e)
-    }
-}
+use terminal::card::expose_card;
+use terminal::listing::list_commands;
+use terminal::sheets::size_of;
+use terminal::stop::{Stop, exit_code, stop_with};
 
 const USAGE: &str =
     "usage: plotter --commands=FILE\n       plotter --testcard=FILM --size=W,H [--pitch=P]";
-
-// A film's width and height, as `--size` has them.
-#[derive(Clone, Copy)]
-pub(crate) struct Size {
-    pub(crate) width: u32,
-    pub(crate) height: u32,
-}
 
 // What the options ask for, besides what is carried out as they are read.
 #[derive(Drop)]
@@ -58,68 +25,34 @@ struct Wanted {
     pitch: u32,
 }
 
-fn parse_number(text: &str) -> Option<u32> {
-    match text.parse::<u32>() {
-        Ok(n) => Some(n),
-        Err(_) => None,
-    }
-}
-
-fn parse_size(text: &str) -> Option<Size> {
-    let (width, height) = text.split_once(',')?;
-    Some(Size {
-        width: parse_number(width)?,
-        height: parse_number(height)?,
-    })
-}
-
 fn complain(rt: &HostRuntime, about: &str, arg: &str) -> Result<(), Stop> {
-    eprintln!(rt; "plotter: {about} {arg}")?;
-    eprintln!(rt; "{USAGE}")?;
-    Err(Stop::Told)
+    stop_with(rt, format_args!("{about} {arg}\n{USAGE}"))
 }
 
 // Takes one option; a listing is carried out at once.
-fn take_option(rt: &HostRuntime, wanted: &mut Wanted, arg: String) -> Result<(), Stop> {
-    if let Some(path) = arg.as_str().strip_prefix("--commands=") {
-        return list_commands(rt, path);
+fn take_option(rt: &HostRuntime, wanted: &mut Wanted, arg: &str) -> Result<(), Stop> {
+    match arg.split_once('=') {
+        Some(("--commands", path)) => list_commands(rt, path)?,
+        Some(("--size", text)) => match size_of(text) {
+            Some(size) => wanted.size = Some(size),
+            None => complain(rt, "--size wants W,H, not", text)?,
+        },
+        Some(("--pitch", text)) => match text.parse() {
+            Ok(pitch) => wanted.pitch = pitch,
+            Err(_) => complain(rt, "--pitch wants a number, not", text)?,
+        },
+        Some(("--testcard", path)) => wanted.card = Some(String::from_str(rt.alloc(), path)?),
+        _ => complain(rt, "unknown option", arg)?,
     }
-    if let Some(text) = arg.as_str().strip_prefix("--size=") {
-        wanted.size = parse_size(text);
-        return if wanted.size.is_some() {
-            Ok(())
-        } else {
-            complain(rt, "--size wants W,H, not", text)
-        };
-    }
-    if let Some(text) = arg.as_str().strip_prefix("--pitch=") {
-        return match parse_number(text) {
-            Some(pitch) => {
-                wanted.pitch = pitch;
-                Ok(())
-            }
-            None => complain(rt, "--pitch wants a number, not", text),
-        };
-    }
-    if arg.as_str().starts_with("--testcard=") {
-        wanted.card = Some(arg);
-        return Ok(());
-    }
-    complain(rt, "unknown option", arg.as_str())
+    Ok(())
 }
 
 // Carries out what the options ask for together.
 fn finish(rt: &HostRuntime, wanted: &Wanted) -> Result<(), Stop> {
-    let Some(option) = wanted.card.as_ref() else {
-        return Ok(());
-    };
-    let path = match option.as_str().strip_prefix("--testcard=") {
-        Some(path) => path,
-        None => option.as_str(),
-    };
-    match wanted.size {
-        Some(size) => expose_card(rt, path, size, wanted.pitch),
-        None => complain(rt, "a test card wants a", "--size"),
+    match (wanted.card.as_ref(), wanted.size) {
+        (None, _) => Ok(()),
+        (Some(path), Some(size)) => expose_card(rt, path.as_str(), size, wanted.pitch),
+        (Some(_), None) => complain(rt, "a test card wants a", "--size"),
     }
 }
 
@@ -129,25 +62,18 @@ fn run(rt: &HostRuntime) -> Result<(), Stop> {
         size: None,
         pitch: 4,
     };
-    let mut options = 0usize;
-    for arg in env::args(rt)?.skip(1) {
-        take_option(rt, &mut wanted, arg)?;
-        options = options.saturating_add(1);
-    }
-    if options == 0 {
+    let mut options = env::args(rt)?.skip(1).peekable();
+    if options.peek().is_none() {
         return complain(rt, "nothing to do:", "no option given");
+    }
+    for arg in options {
+        take_option(rt, &mut wanted, arg.as_str())?;
     }
     finish(rt, &wanted)
 }
 
+// each program has a main of its own
 fn main(rt: HostRuntime) -> ExitCode {
-    match run(&rt) {
-        Ok(()) => ExitCode::SUCCESS,
-        Err(Stop::Memory) => {
-            // the status tells of it where this cannot be written
-            let _ = eprintln!(rt; "plotter: there is not enough memory");
-            ExitCode::FAILURE
-        }
-        Err(_) => ExitCode::FAILURE,
-    }
+    let outcome = run(&rt);
+    exit_code(&rt, outcome)
 }

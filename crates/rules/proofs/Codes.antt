@@ -1,22 +1,14 @@
 -- the search for an aperture's code
-use Rattle.std.proofs.Common.{◌≡◌, ℕ, ◌+◌, ◌<◌, ◌≤◌, Bool, cond, eqb, List, map, length, get_or, drop, Some, None, sym, ap, ◌∙◌, eq-eqb, ne_eqb}
+use Rattle.std.proofs.Common.{◌≡◌, ℕ, ◌+◌, cond, eqb, List, [], ◌∷◌, map, Some, refl, ap, ◌∙◌}
 use Rattle.records.specs.Records.{seen_aperture}
 use Rattle.records.specs.declared.kinds.Aperture.{Aperture}
-use Rattle.rules.specs.Rules.{number_from}
-use Rattle.std.proofs.lemmas.List.{at_drop_all, at_drop_more}
+use Rattle.rules.specs.Rules.{number_from, number_of}
+use Rattle.std.proofs.lemmas.Iterator.Adapters.{position_from-zero}
+use Rattle.std.specs.List.{position, position_from}
 
-module _ (k : ℕ) (aps : List Aperture) (i : ℕ) where
-  code_more : (x : Aperture) → i < length aps → x ≡ get_or aps i x
-      → number_from i k (map seen_aperture (drop i aps)) ≡ cond (eqb x.code k) (Some i) (number_from (i + 1) k (map seen_aperture (drop (i + 1) aps)))
-  code_more x h e =
-      at_drop_more (λ (l : List Aperture). number_from i k (map seen_aperture l)) aps i x h
-      ∙ ap (λ (a : Aperture). cond (eqb a.code k) (Some i) (number_from (i + 1) k (map seen_aperture (drop (i + 1) aps)))) (sym e)
+number_from_is : (k n : ℕ) (aps : List Aperture) → position_from (λ (a : Aperture). eqb a.code k) n aps ≡ number_from n k (map seen_aperture aps)
+number_from_is k n [] = refl
+number_from_is k n (a ∷ aps) = ap (cond (eqb a.code k) (Some n)) (number_from_is k (n + 1) aps)
 
-  pub code_found : (x : Aperture) → i < length aps → x ≡ get_or aps i x → x.code ≡ k → number_from i k (map seen_aperture (drop i aps)) ≡ Some i
-  code_found x h e t = code_more x h e ∙ ap (λ (b : Bool). cond b (Some i) (number_from (i + 1) k (map seen_aperture (drop (i + 1) aps)))) (eq-eqb x.code k t)
-
-  pub code_on : (x : Aperture) → i < length aps → x ≡ get_or aps i x → (x.code ≡ k → ⊥) → number_from i k (map seen_aperture (drop i aps)) ≡ number_from (i + 1) k (map seen_aperture (drop (i + 1) aps))
-  code_on x h e t = code_more x h e ∙ ap (λ (b : Bool). cond b (Some i) (number_from (i + 1) k (map seen_aperture (drop (i + 1) aps)))) (ne_eqb x.code k t)
-
-  pub code_absent : length aps ≤ i → number_from i k (map seen_aperture (drop i aps)) ≡ None
-  code_absent h = at_drop_all (λ (l : List Aperture). number_from i k (map seen_aperture l)) aps i h
+pub number_is : (k : ℕ) (aps : List Aperture) → position (λ (a : Aperture). eqb a.code k) aps ≡ number_of k (map seen_aperture aps)
+number_is k aps = position_from-zero (λ (a : Aperture). eqb a.code k) aps ∙ number_from_is k 0 aps

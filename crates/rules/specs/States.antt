@@ -10,6 +10,7 @@ use Rattle.plane.specs.Points.{file_point_at}
 use Rattle.records.specs.Records.{ApertureSeen, ObjectSeen, seen_aperture, seen_object, seen_piece}
 use Rattle.records.specs.declared.kinds.Mirror.{Mirror}
 use Rattle.records.specs.declared.kinds.Owner.{Owner}
+use Rattle.rules.specs.declared.state.Decision.{Decision}
 use Rattle.rules.specs.declared.state.Effect.TheVariants as effect
 use Rattle.rules.specs.declared.state.Effect.{Effect}
 use Rattle.rules.specs.declared.state.Region.TheVariants as region
@@ -78,5 +79,5 @@ abbrev pub Decided : Type 0
 Decided = Result (StateSeen × EffectSeen) ℕ
 
 -- The answer of the program as plain values.
-abbrev pub seen_decided : Result (State × Effect) Rule → Decided
-seen_decided r = results.result_map_both (λ d. (seen_state d.0, seen_effect d.1)) rule_number r
+abbrev pub seen_decided : Result Decision Rule → Decided
+seen_decided r = results.result_map_both (λ d. (seen_state d.state, seen_effect d.effect)) rule_number r

@@ -5,116 +5,91 @@ ghost use Rattle.rules.specs.Rules.{decided, obeyed};
 ghost use Rattle.rules.specs.States.{seen_decided, seen_state};
 ghost use Rattle.std.specs.Prelude.{◌≡◌, map};
 
-use crate::apertures::{block_open, circle, obround, rectangle, repeat_of, repeat_open, select};
-use crate::points::{close_region, move_by};
 use crate::rule::Rule;
-use crate::settings::{
-    leave, open_region, set, set_arcs, set_format, set_mirror, set_mode, set_polarity, set_unit,
-    with_owner,
-};
-use crate::standing::may_stand;
-use crate::state::{Effect, State};
-use crate::strokes::{draw_by, flash_by};
-use crate::values::{scale_of, values_of};
+use crate::settings::set;
+use crate::state::{Decision, Region, State};
+use crate::values::values_of;
 use forms::Command;
 use records::kinds::{Aperture, Mirror, Owner};
 
-// What a command that may stand does.
-fn obey(
-    state: State,
-    apertures: &[Aperture],
-    objects: usize,
-    pieces: usize,
-    command: Command<'_>,
-) -> Result<(State, Effect), Rule>
-    ensures { seen_decided result ≡ obeyed (seen_state state) (map seen_aperture apertures.now) objects pieces (seen_command command.entry) }
-{
-    let scale = scale_of(state.unit, state.format);
-    match command {
-        Command::Format { format, .. } => set_format(state, format),
-        Command::Unit(unit) => set_unit(state, unit),
-        Command::Circle { code, diameter } => leave(
-            state,
-            circle(scale, apertures, code.number, diameter.millionths),
-        ),
-        Command::Rectangle {
-            code,
-            width,
-            height,
-        } => leave(
-            state,
-            rectangle(
-                scale,
-                apertures,
-                code.number,
-                width.millionths,
-                height.millionths,
-            ),
-        ),
-        Command::Obround {
-            code,
-            width,
-            height,
-        } => leave(
-            state,
-            obround(
-                scale,
-                apertures,
-                code.number,
-                width.millionths,
-                height.millionths,
-            ),
-        ),
-        Command::BlockOpen { code } => block_open(state, apertures, objects, code.number),
-        Command::BlockClose => set(with_owner(state, Owner::Layer)),
-        Command::RepeatOpen {
-            columns,
-            rows,
-            step_x,
-            step_y,
-        } => repeat_open(
-            state,
-            repeat_of(
-                scale,
-                objects,
-                columns.number,
-                rows.number,
-                step_x.millionths,
-                step_y.millionths,
-            ),
-        ),
-        Command::RepeatClose => set(with_owner(state, Owner::Layer)),
-        Command::Polarity(polarity) => set_polarity(state, polarity),
-        Command::Mirror { x, y } => set_mirror(state, Mirror { x, y }),
-        Command::Attribute { .. } => set(state),
-        Command::Comment { .. } => set(state),
-        Command::Mode(mode) => set_mode(state, mode),
-        Command::MultiQuadrant => set_arcs(state),
-        Command::RegionOpen => open_region(state),
-        Command::RegionClose => close_region(state, pieces),
-        Command::EndOfFile => set(state),
-        Command::Select { code } => select(state, apertures, code.number),
-        Command::Draw { x, y, i, j } => {
-            draw_by(state, apertures, values_of(x, y), values_of(i, j))
-        }
-        Command::Move { x, y } => move_by(state, pieces, values_of(x, y)),
-        Command::Flash { x, y } => flash_by(state, apertures, values_of(x, y)),
-    }
+/// What a command is decided on: the graphics state, the apertures that the tables hold, and how
+/// many objects and pieces they hold.
+#[derive(Clone, Copy)]
+pub struct Desk<'a> {
+    pub state: State,
+    pub apertures: &'a [Aperture],
+    pub objects: usize,
+    pub pieces: usize,
 }
 
-/// What a command does, the tables holding these apertures and as many objects and pieces as told:
-/// the next state and what a table is to take, or the rule that the command breaks.
-pub fn decide(
-    state: State,
-    apertures: &[Aperture],
-    objects: usize,
-    pieces: usize,
-    command: Command<'_>,
-) -> Result<(State, Effect), Rule>
-    ensures { seen_decided result ≡ decided (seen_state state) (map seen_aperture apertures.now) objects pieces (seen_command command.entry) }
-{
-    if !may_stand(state, command) {
-        return Err(Rule::Misplaced);
+impl Desk<'_> {
+    // What a command that may stand does.
+    fn obey(&self, command: Command<'_>) -> Result<Decision, Rule>
+        ensures { seen_decided result ≡ obeyed (seen_state self.now.state) (map seen_aperture self.now.apertures.now) self.now.objects self.now.pieces (seen_command command.entry) }
+    {
+        let state = self.state;
+        match command {
+            Command::Format { format, .. } => set(State {
+                format: Some(format),
+                ..state
+            }),
+            Command::Unit(unit) => set(State {
+                unit: Some(unit),
+                ..state
+            }),
+            Command::Circle { code, diameter } => self.circle(code.value, diameter.value),
+            Command::Rectangle {
+                code,
+                width,
+                height,
+            } => self.rectangle(code.value, width.value, height.value),
+            Command::Obround {
+                code,
+                width,
+                height,
+            } => self.obround(code.value, width.value, height.value),
+            Command::BlockOpen { code } => self.open_block(code.value),
+            Command::RepeatOpen {
+                columns,
+                rows,
+                step_x,
+                step_y,
+            } => { self.open_repeat(columns.value, rows.value, step_x.value, step_y.value) }
+            Command::BlockClose | Command::RepeatClose => set(state.with_owner(Owner::Layer)),
+            Command::Polarity(polarity) => set(State { polarity, ..state }),
+            Command::Mirror { x, y } => set(State {
+                mirror: Mirror { x, y },
+                ..state
+            }),
+            Command::Mode(mode) => set(State {
+                mode: Some(mode),
+                ..state
+            }),
+            Command::MultiQuadrant => set(State {
+                arcs: true,
+                ..state
+            }),
+            Command::RegionOpen => set(State {
+                region: Region::Inside,
+                ..state
+            }),
+            Command::RegionClose => self.close_region(),
+            Command::Attribute { .. } | Command::Comment { .. } | Command::EndOfFile => set(state),
+            Command::Select { code } => self.select(code.value),
+            Command::Draw { x, y, i, j } => self.draw(values_of(x, y), values_of(i, j)),
+            Command::Move { x, y } => self.move_to(values_of(x, y)),
+            Command::Flash { x, y } => self.flash(values_of(x, y)),
+        }
     }
-    obey(state, apertures, objects, pieces, command)
+
+    /// What a command does: the next state and what a table is to take, or the rule that it breaks.
+    #[tactic(auto, unfolding(crate::specs::Rules::decided))]
+    pub fn decide(&self, command: Command<'_>) -> Result<Decision, Rule>
+        ensures { seen_decided result ≡ decided (seen_state self.now.state) (map seen_aperture self.now.apertures.now) self.now.objects self.now.pieces (seen_command command.entry) }
+    {
+        if !self.state.allows(command) {
+            return Err(Rule::Misplaced);
+        }
+        self.obey(command)
+    }
 }

@@ -1,8 +1,8 @@
 // The rules of commands: what a command does to the graphics state, and what it draws.
 //
-// `State` is the one record of the graphics state. `decide` takes it with a command and what the
-// record tables hold, and answers the next state and one `Effect`: nothing, an aperture, an object
-// or a piece of a contour, which the caller then takes into a table. It alters nothing, so a command
+// `State` is the one record of the graphics state. A `Desk` holds it beside what the record tables
+// hold, and decides on a command: the next state and one `Effect`, which is nothing, an aperture, an
+// object or a piece of a contour, for the caller to take into a table. It alters nothing, so a command
 // that is refused leaves the state as it was. Checks run in the order of the numbers of refusals;
 // whether a record finds a place, and what it lays, is for the caller to say.
 //

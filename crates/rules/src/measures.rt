@@ -4,43 +4,37 @@ ghost use Rattle.std.specs.Prelude.{◌≤◌, unsigned_abs};
 use ticks::{Decimals, Unit};
 
 /// The unit and the decimals in force.
-#[derive(Clone, Copy)]
+#[derive(Clone, Copy, PartialEq, Eq, Debug)]
 pub struct Scale {
     pub unit: Unit,
     pub decimals: Decimals,
 }
 
-/// The values of X and Y, or of I and J, as far as they are written.
+/// X and Y, or I and J, as far as they are written.
 #[derive(Clone, Copy)]
-pub struct Written {
-    pub x: Option<i64>,
-    pub y: Option<i64>,
+pub struct Pair<T> {
+    pub x: Option<T>,
+    pub y: Option<T>,
 }
 
-/// An X or Y of a point, within ±30,000.
+/// Ticks within ±LIMIT.
 #[derive(Clone, Copy)]
-pub struct Reach {
+pub struct Within<const LIMIT: u16> {
     pub ticks: i32,
-    ghost within: { unsigned_abs ticks ≤ 30000 },
+    ghost within: { unsigned_abs ticks ≤ LIMIT },
 }
 
-/// An I or J from the start of an arc to its centre, within ±15,000.
-#[derive(Clone, Copy)]
-pub struct Offset {
-    pub ticks: i32,
-    ghost within: { unsigned_abs ticks ≤ 15000 },
-}
+/// The values of X and Y, or of I and J.
+pub type Written = Pair<i64>;
 
-/// X and Y, as far as they are written.
-#[derive(Clone, Copy)]
-pub struct Target {
-    pub x: Option<Reach>,
-    pub y: Option<Reach>,
-}
+/// An X or Y of a point.
+pub type Reach = Within<30_000>;
 
-/// I and J, as far as they are written.
-#[derive(Clone, Copy)]
-pub struct Shift {
-    pub i: Option<Offset>,
-    pub j: Option<Offset>,
-}
+/// An I or J from the start of an arc to its centre.
+pub type Offset = Within<15_000>;
+
+/// X and Y of a point.
+pub type Target = Pair<Reach>;
+
+/// I and J of an arc.
+pub type Shift = Pair<Offset>;

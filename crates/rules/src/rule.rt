@@ -1,7 +1,7 @@
 // The rule that a command of a good form breaks.
 
 /// Which rule it is.
-#[derive(Clone, Copy)]
+#[derive(Clone, Copy, PartialEq, Eq, Debug)]
 pub enum Rule {
     // it may not stand there, or has I or J in G01 mode
     Misplaced,

@@ -1,141 +1,87 @@
 // The state with another part.
 ghost use Rattle.plane.specs.Points.{file_point_at};
-ghost use Rattle.rules.specs.Measures.{ruled};
-ghost use Rattle.rules.specs.Rules.{leaves};
-ghost use Rattle.rules.specs.Settings.{with_aperture, with_arcs, with_contour, with_format, with_mirror, with_mode, with_owner, with_point, with_polarity, with_region, with_unit, without_region};
-ghost use Rattle.rules.specs.States.{nothing, seen_decided, seen_effect, seen_state};
+ghost use Rattle.rules.specs.Rules.{scale_of};
+ghost use Rattle.rules.specs.Settings.{with_aperture, with_contour, with_owner, with_point, without_region};
+ghost use Rattle.rules.specs.States.{nothing, seen_decided, seen_state};
 ghost use Rattle.std.specs.Prelude.{◌≡◌, Ok};
 
+use crate::measures::Scale;
 use crate::rule::Rule;
-use crate::state::{Effect, Region, State};
-use forms::{Format, Mode, Polarity};
+use crate::state::{Decision, Effect, Region, State};
 use plane::points::FilePoint;
-use records::kinds::{Mirror, Owner};
-use ticks::Unit;
+use records::kinds::Owner;
+use ticks::{Decimals, Unit};
 
 // The command draws nothing, and `next` is the state behind it.
-pub(crate) fn set(next: State) -> Result<(State, Effect), Rule>
+pub(crate) fn set(next: State) -> Result<Decision, Rule>
     ensures { seen_decided result ≡ Ok (seen_state next, nothing) }
 {
-    Ok((next, Effect::Nothing))
-}
-
-// The command has this effect, and `next` is the state behind it.
-pub(crate) fn leave(next: State, effect: Result<Effect, Rule>) -> Result<(State, Effect), Rule>
-    ensures { seen_decided result ≡ leaves (seen_state next) (ruled seen_effect effect) }
-{
-    match effect {
-        Ok(effect) => Ok((next, effect)),
-        Err(rule) => Err(rule),
-    }
-}
-
-pub(crate) fn set_format(state: State, format: Format) -> Result<(State, Effect), Rule>
-    ensures { seen_decided result ≡ Ok (with_format format (seen_state state), nothing) }
-{
-    set(State {
-        format: Some(format),
-        ..state
+    Ok(Decision {
+        state: next,
+        effect: Effect::Nothing,
     })
 }
 
-pub(crate) fn set_unit(state: State, unit: Unit) -> Result<(State, Effect), Rule>
-    ensures { seen_decided result ≡ Ok (with_unit unit (seen_state state), nothing) }
-{
-    set(State {
-        unit: Some(unit),
-        ..state
-    })
-}
-
-pub(crate) fn set_polarity(state: State, polarity: Polarity) -> Result<(State, Effect), Rule>
-    ensures { seen_decided result ≡ Ok (with_polarity polarity (seen_state state), nothing) }
-{
-    set(State { polarity, ..state })
-}
-
-pub(crate) fn set_mirror(state: State, mirror: Mirror) -> Result<(State, Effect), Rule>
-    ensures { seen_decided result ≡ Ok (with_mirror mirror (seen_state state), nothing) }
-{
-    set(State { mirror, ..state })
-}
-
-pub(crate) fn set_mode(state: State, mode: Mode) -> Result<(State, Effect), Rule>
-    ensures { seen_decided result ≡ Ok (with_mode mode (seen_state state), nothing) }
-{
-    set(State {
-        mode: Some(mode),
-        ..state
-    })
-}
-
-// G75 has come.
-pub(crate) fn set_arcs(state: State) -> Result<(State, Effect), Rule>
-    ensures { seen_decided result ≡ Ok (with_arcs (seen_state state), nothing) }
-{
-    set(State {
-        arcs: true,
-        ..state
-    })
-}
-
-// A region opens, and the current point stays.
-pub(crate) fn open_region(state: State) -> Result<(State, Effect), Rule>
-    ensures { seen_decided result ≡ Ok (with_region (seen_state state), nothing) }
-{
-    set(State {
-        region: Region::Inside,
-        ..state
-    })
-}
-
-pub(crate) fn with_aperture(state: State, number: usize) -> State
-    ensures { seen_state result ≡ with_aperture number (seen_state state) }
-{
-    State {
-        aperture: Some(number),
-        ..state
+impl State {
+    // The unit and the decimals in force. (Where one is absent, no command with a number may stand.)
+    pub(crate) fn scale(self) -> Scale
+        ensures { result ≡ scale_of (seen_state self) }
+    {
+        Scale {
+            unit: self.unit.unwrap_or(Unit::Millimetre),
+            decimals: self.format.map_or(Decimals::Four, |f| f.decimals),
+        }
     }
-}
 
-pub(crate) fn with_point(state: State, p: FilePoint) -> State
-    ensures { seen_state result ≡ with_point (file_point_at p) (seen_state state) }
-{
-    State {
-        point: Some(p),
-        ..state
+    // each part of the state is set under its own name
+    pub(crate) fn with_aperture(self, number: usize) -> State
+        ensures { seen_state result ≡ with_aperture number (seen_state self) }
+    {
+        State {
+            aperture: Some(number),
+            ..self
+        }
     }
-}
 
-// AB and SR open or close: the current point is absent then, and all other state stays.
-pub(crate) fn with_owner(state: State, owner: Owner) -> State
-    ensures { seen_state result ≡ with_owner owner (seen_state state) }
-{
-    State {
-        owner,
-        point: None,
-        ..state
+    pub(crate) fn with_point(self, p: FilePoint) -> State
+        ensures { seen_state result ≡ with_point (file_point_at p) (seen_state self) }
+    {
+        State {
+            point: Some(p),
+            ..self
+        }
     }
-}
 
-// A region closes, and the current point is absent then.
-pub(crate) fn without_region(state: State) -> State
-    ensures { seen_state result ≡ without_region (seen_state state) }
-{
-    State {
-        point: None,
-        region: Region::Outside,
-        ..state
+    // AB and SR open or close: the current point is absent then, and all other state stays.
+    pub(crate) fn with_owner(self, owner: Owner) -> State
+        ensures { seen_state result ≡ with_owner owner (seen_state self) }
+    {
+        State {
+            owner,
+            point: None,
+            ..self
+        }
     }
-}
 
-// A contour begins, its first piece to have the number `first`.
-pub(crate) fn with_contour(state: State, start: FilePoint, first: usize) -> State
-    ensures { seen_state result ≡ with_contour (file_point_at start) first (seen_state state) }
-{
-    State {
-        point: Some(start),
-        region: Region::Begun { start, first },
-        ..state
+    // A region closes, and the current point is absent then.
+    pub(crate) fn without_region(self) -> State
+        ensures { seen_state result ≡ without_region (seen_state self) }
+    {
+        State {
+            point: None,
+            region: Region::Outside,
+            ..self
+        }
+    }
+
+    // A contour begins, its first piece to have the number `first`.
+    pub(crate) fn with_contour(self, start: FilePoint, first: usize) -> State
+        ensures { seen_state result ≡ with_contour (file_point_at start) first (seen_state self) }
+    {
+        State {
+            point: Some(start),
+            region: Region::Begun { start, first },
+            ..self
+        }
     }
 }

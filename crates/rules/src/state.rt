@@ -29,7 +29,7 @@ pub struct State {
     /// the number of the selected aperture's record
     pub aperture: Option<usize>,
     pub mode: Option<Mode>,
-    /// G75 has come
+    /// G75 has come: a flag without a value
     pub arcs: bool,
     pub point: Option<FilePoint>,
     /// what an object drawn now belongs to: the block or the step and repeat that is open, or the layer
@@ -44,6 +44,13 @@ pub enum Effect {
     Aperture(Aperture),
     Object(Object),
     Piece(Piece),
+}
+
+/// What a command comes to: the state behind it, and what a table is to take.
+#[derive(Clone, Copy)]
+pub struct Decision {
+    pub state: State,
+    pub effect: Effect,
 }
 
 impl State {

@@ -1,317 +1,147 @@
 // Commands in words.
-use forms::{AttributeKind, Code, Command, Coordinate, Count, Mode, Polarity, Size};
+use crate::InWords;
+use forms::{AttributeKind, Command, Coordinate, Mode, Polarity};
 use std::fmt;
-use ticks::{Decimals, Unit};
+use ticks::Unit;
 use words::Part;
 
 // A part of the file as text; its bytes are printable by the rules of words.
-fn text_of<'a>(part: Part<'a>) -> &'a str {
-    match std::str::from_utf8(part.text) {
-        Ok(text) => text,
-        Err(_) => "?",
-    }
-}
-
-fn decimals_of(decimals: Decimals) -> u8 {
-    match decimals {
-        Decimals::Four => 4,
-        Decimals::Five => 5,
-        Decimals::Six => 6,
-    }
-}
-
-fn unit_name(unit: Unit) -> &'static str {
-    match unit {
-        Unit::Millimetre => "millimetre",
-        Unit::Inch => "inch",
-    }
-}
-
-fn kind_name(kind: AttributeKind) -> &'static str {
-    match kind {
-        AttributeKind::File => "file attribute",
-        AttributeKind::Aperture => "aperture attribute",
-        AttributeKind::Object => "object attribute",
-        AttributeKind::Delete => "delete attributes",
-    }
-}
-
-fn mode_name(mode: Mode) -> &'static str {
-    match mode {
-        Mode::Linear => "straight strokes",
-        Mode::Clockwise => "clockwise arcs",
-        Mode::Counterclockwise => "counterclockwise arcs",
-    }
-}
-
-fn polarity_name(polarity: Polarity) -> &'static str {
-    match polarity {
-        Polarity::Dark => "dark",
-        Polarity::Clear => "clear",
-    }
-}
-
-fn mirror_name(x: bool, y: bool) -> &'static str {
-    match (x, y) {
-        (false, false) => "none",
-        (true, false) => "x",
-        (false, true) => "y",
-        (true, true) => "x and y",
-    }
-}
-
-// A value behind its letter, or nothing where it is not written.
-#[derive(Clone, Copy)]
-struct Written<'a> {
-    letter: char,
-    value: Option<Coordinate<'a>>,
-}
-
-impl fmt::Display for Written<'_> {
+impl fmt::Display for InWords<Part<'_>> {
     fn fmt<W: fmt::Write>(&self, f: &mut fmt::Formatter<W>) -> fmt::Result {
-        let letter = self.letter;
-        match self.value {
-            Some(c) => {
-                let value = c.value;
-                write!(f, " {letter} {value}")
-            }
-            None => Ok(()),
+        f.write_str(std::str::from_utf8(self.0.text).unwrap_or("?"))
+    }
+}
+
+// Each type has words of its own, so that a match for each is the table of them.
+impl fmt::Display for InWords<Unit> {
+    fn fmt<W: fmt::Write>(&self, f: &mut fmt::Formatter<W>) -> fmt::Result {
+        f.write_str(match self.0 {
+            Unit::Millimetre => "millimetre",
+            Unit::Inch => "inch",
+        })
+    }
+}
+
+impl fmt::Display for InWords<AttributeKind> {
+    fn fmt<W: fmt::Write>(&self, f: &mut fmt::Formatter<W>) -> fmt::Result {
+        f.write_str(match self.0 {
+            AttributeKind::File => "file attribute",
+            AttributeKind::Aperture => "aperture attribute",
+            AttributeKind::Object => "object attribute",
+            AttributeKind::Delete => "delete attributes",
+        })
+    }
+}
+
+impl fmt::Display for InWords<Mode> {
+    fn fmt<W: fmt::Write>(&self, f: &mut fmt::Formatter<W>) -> fmt::Result {
+        f.write_str(match self.0 {
+            Mode::Linear => "straight strokes",
+            Mode::Clockwise => "clockwise arcs",
+            Mode::Counterclockwise => "counterclockwise arcs",
+        })
+    }
+}
+
+impl fmt::Display for InWords<Polarity> {
+    fn fmt<W: fmt::Write>(&self, f: &mut fmt::Formatter<W>) -> fmt::Result {
+        f.write_str(match self.0 {
+            Polarity::Dark => "dark",
+            Polarity::Clear => "clear",
+        })
+    }
+}
+
+// A coordinate behind its letter, or nothing where it is not written.
+impl fmt::Display for InWords<(char, Option<Coordinate<'_>>)> {
+    fn fmt<W: fmt::Write>(&self, f: &mut fmt::Formatter<W>) -> fmt::Result {
+        match self.0 {
+            (letter, Some(written)) => write!(f, " {letter} {}", written.value),
+            (_, None) => Ok(()),
         }
     }
 }
 
-// An aperture's code, figure and sizes.
-#[derive(Clone, Copy)]
-struct Defined<'a> {
-    code: Code<'a>,
-    figure: &'a str,
-    width: Size<'a>,
-    height: Option<Size<'a>>,
-}
-
-impl fmt::Display for Defined<'_> {
+impl fmt::Display for InWords<Command<'_>> {
     fn fmt<W: fmt::Write>(&self, f: &mut fmt::Formatter<W>) -> fmt::Result {
-        let number = self.code.number;
-        let figure = self.figure;
-        let width = text_of(self.width.part);
-        match self.height {
-            Some(h) => {
-                let height = text_of(h.part);
-                write!(f, "aperture {number} is {figure} of {width} by {height}")
-            }
-            None => write!(f, "aperture {number} is {figure} of {width}"),
-        }
-    }
-}
-
-// A step and repeat's counts and steps.
-#[derive(Clone, Copy)]
-struct Repeated<'a> {
-    columns: Count<'a>,
-    rows: Count<'a>,
-    step_x: Size<'a>,
-    step_y: Size<'a>,
-}
-
-impl fmt::Display for Repeated<'_> {
-    fn fmt<W: fmt::Write>(&self, f: &mut fmt::Formatter<W>) -> fmt::Result {
-        let columns = self.columns.number;
-        let rows = self.rows.number;
-        let x = text_of(self.step_x.part);
-        let y = text_of(self.step_y.part);
-        write!(f, "step and repeat {columns} by {rows}, steps {x} and {y}")
-    }
-}
-
-// A command in words.
-#[derive(Clone, Copy)]
-pub struct Described<'a> {
-    pub command: Command<'a>,
-}
-
-// The commands that define something, or hold text.
-fn show_defining<W: fmt::Write>(command: Command<'_>, f: &mut fmt::Formatter<W>) -> fmt::Result {
-    match command {
-        Command::Circle { code, diameter } => {
-            let d = Defined {
+        match self.0 {
+            Command::Format { format, .. } => write!(
+                f,
+                "format of {} whole digits and {} decimals",
+                format.whole,
+                format.decimals.places()
+            ),
+            Command::Unit(unit) => write!(f, "unit {}", InWords(unit)),
+            Command::Circle { code, diameter } => write!(
+                f,
+                "aperture {} is a circle of {}",
+                code.value,
+                InWords(diameter.part)
+            ),
+            Command::Rectangle {
                 code,
-                figure: "a circle",
-                width: diameter,
-                height: None,
-            };
-            write!(f, "{d}")
-        }
-        Command::Rectangle {
-            code,
-            width,
-            height,
-        } => {
-            let d = Defined {
-                code,
-                figure: "a rectangle",
                 width,
-                height: Some(height),
-            };
-            write!(f, "{d}")
-        }
-        Command::Obround {
-            code,
-            width,
-            height,
-        } => {
-            let d = Defined {
+                height,
+            } => write!(
+                f,
+                "aperture {} is a rectangle of {} by {}",
+                code.value,
+                InWords(width.part),
+                InWords(height.part)
+            ),
+            Command::Obround {
                 code,
-                figure: "an obround",
                 width,
-                height: Some(height),
-            };
-            write!(f, "{d}")
-        }
-        Command::BlockOpen { code } => {
-            let number = code.number;
-            write!(f, "block {number} opens")
-        }
-        Command::RepeatOpen {
-            columns,
-            rows,
-            step_x,
-            step_y,
-        } => {
-            let r = Repeated {
+                height,
+            } => write!(
+                f,
+                "aperture {} is an obround of {} by {}",
+                code.value,
+                InWords(width.part),
+                InWords(height.part)
+            ),
+            Command::BlockOpen { code } => write!(f, "block {} opens", code.value),
+            Command::BlockClose => write!(f, "block closes"),
+            Command::RepeatOpen {
                 columns,
                 rows,
                 step_x,
                 step_y,
-            };
-            write!(f, "{r}")
-        }
-        Command::Attribute { kind, text } => {
-            let name = kind_name(kind);
-            let text = text_of(text);
-            if text.is_empty() {
-                write!(f, "{name}")
-            } else {
-                write!(f, "{name} {text}")
-            }
-        }
-        Command::Comment { text } => {
-            let text = text_of(text);
-            write!(f, "comment{text}")
-        }
-        _ => Ok(()),
-    }
-}
-
-// The commands that set the state.
-fn show_setting<W: fmt::Write>(command: Command<'_>, f: &mut fmt::Formatter<W>) -> fmt::Result {
-    match command {
-        Command::Format { format, .. } => {
-            let whole = format.whole;
-            let decimals = decimals_of(format.decimals);
-            write!(f, "format of {whole} whole digits and {decimals} decimals")
-        }
-        Command::Unit(unit) => {
-            let name = unit_name(unit);
-            write!(f, "unit {name}")
-        }
-        Command::Polarity(polarity) => {
-            let name = polarity_name(polarity);
-            write!(f, "polarity {name}")
-        }
-        Command::Mirror { x, y } => {
-            let name = mirror_name(x, y);
-            write!(f, "mirror {name}")
-        }
-        Command::Mode(mode) => {
-            let name = mode_name(mode);
-            write!(f, "mode {name}")
-        }
-        Command::Select { code } => {
-            let number = code.number;
-            write!(f, "select aperture {number}")
-        }
-        _ => Ok(()),
-    }
-}
-
-// The operations.
-fn show_operation<W: fmt::Write>(command: Command<'_>, f: &mut fmt::Formatter<W>) -> fmt::Result {
-    match command {
-        Command::Draw { x, y, i, j } => {
-            let (x, y) = (
-                Written {
-                    letter: 'X',
-                    value: x,
-                },
-                Written {
-                    letter: 'Y',
-                    value: y,
-                },
-            );
-            let (i, j) = (
-                Written {
-                    letter: 'I',
-                    value: i,
-                },
-                Written {
-                    letter: 'J',
-                    value: j,
-                },
-            );
-            write!(f, "draw{x}{y}{i}{j}")
-        }
-        Command::Move { x, y } => {
-            let (x, y) = (
-                Written {
-                    letter: 'X',
-                    value: x,
-                },
-                Written {
-                    letter: 'Y',
-                    value: y,
-                },
-            );
-            write!(f, "move{x}{y}")
-        }
-        Command::Flash { x, y } => {
-            let (x, y) = (
-                Written {
-                    letter: 'X',
-                    value: x,
-                },
-                Written {
-                    letter: 'Y',
-                    value: y,
-                },
-            );
-            write!(f, "flash{x}{y}")
-        }
-        _ => Ok(()),
-    }
-}
-
-impl fmt::Display for Described<'_> {
-    fn fmt<W: fmt::Write>(&self, f: &mut fmt::Formatter<W>) -> fmt::Result {
-        match self.command {
-            Command::Format { .. } | Command::Unit(_) | Command::Polarity(_) => show_setting(
-                self.command,
+            } => write!(
                 f,
+                "step and repeat {} by {}, steps {} and {}",
+                columns.value,
+                rows.value,
+                InWords(step_x.part),
+                InWords(step_y.part)
             ),
-            Command::Mirror { .. } | Command::Mode(_) | Command::Select { .. } => show_setting(
-                self.command,
-                f,
-            ),
-            Command::Draw { .. } | Command::Move { .. } | Command::Flash { .. } => show_operation(
-                self.command,
-                f,
-            ),
-            Command::BlockClose => write!(f, "block closes"),
             Command::RepeatClose => write!(f, "step and repeat closes"),
+            Command::Polarity(polarity) => write!(f, "polarity {}", InWords(polarity)),
+            Command::Mirror { x: false, y: false } => write!(f, "mirror none"),
+            Command::Mirror { x: true, y: false } => write!(f, "mirror x"),
+            Command::Mirror { x: false, y: true } => write!(f, "mirror y"),
+            Command::Mirror { x: true, y: true } => write!(f, "mirror x and y"),
+            Command::Attribute { kind, text } if text.text.is_empty() => {
+                write!(f, "{}", InWords(kind))
+            }
+            Command::Attribute { kind, text } => write!(f, "{} {}", InWords(kind), InWords(text)),
+            Command::Comment { text } => write!(f, "comment{}", InWords(text)),
+            Command::Mode(mode) => write!(f, "mode {}", InWords(mode)),
             Command::MultiQuadrant => write!(f, "arcs in any quadrants"),
             Command::RegionOpen => write!(f, "region opens"),
             Command::RegionClose => write!(f, "region closes"),
             Command::EndOfFile => write!(f, "end of file"),
-            _ => show_defining(self.command, f),
+            Command::Select { code } => write!(f, "select aperture {}", code.value),
+            Command::Draw { x, y, i, j } => write!(
+                f,
+                "draw{}{}{}{}",
+                InWords(('X', x)),
+                InWords(('Y', y)),
+                InWords(('I', i)),
+                InWords(('J', j))
+            ),
+            Command::Move { x, y } => write!(f, "move{}{}", InWords(('X', x)), InWords(('Y', y))),
+            Command::Flash { x, y } => write!(f, "flash{}{}", InWords(('X', x)), InWords(('Y', y))),
         }
     }
 }

@@ -1,193 +1,155 @@
 // Records in words. Lengths and points are ticks.
+use crate::InWords;
 use contour::pieces::Piece;
-use forms::Polarity;
-use plane::points::{FileCentre, FilePoint};
+use plane::points::Spot;
 use records::kinds::{Aperture, Figure, Mirror, Object, Outline, Owner};
 use std::fmt;
 
-#[derive(Clone, Copy)]
-struct At {
-    x: i32,
-    y: i32,
-}
-
-impl fmt::Display for At {
+impl<const LIMIT: u32> fmt::Display for InWords<Spot<LIMIT>> {
     fn fmt<W: fmt::Write>(&self, f: &mut fmt::Formatter<W>) -> fmt::Result {
-        let (x, y) = (self.x, self.y);
-        write!(f, "{x},{y}")
+        write!(f, "{},{}", self.0.x, self.0.y)
     }
 }
 
-fn point(p: FilePoint) -> At {
-    At { x: p.x, y: p.y }
-}
-
-fn centre(c: FileCentre) -> At {
-    At { x: c.x, y: c.y }
-}
-
-fn mirror_words(mirror: Mirror) -> &'static str {
-    match (mirror.x, mirror.y) {
-        (false, false) => "",
-        (true, false) => ", mirrored in x",
-        (false, true) => ", mirrored in y",
-        (true, true) => ", mirrored in x and y",
+// How a block is mirrored, behind its place.
+impl fmt::Display for InWords<Mirror> {
+    fn fmt<W: fmt::Write>(&self, f: &mut fmt::Formatter<W>) -> fmt::Result {
+        f.write_str(match (self.0.x, self.0.y) {
+            (false, false) => "",
+            (true, false) => ", mirrored in x",
+            (false, true) => ", mirrored in y",
+            (true, true) => ", mirrored in x and y",
+        })
     }
 }
 
-/// One aperture record on a line.
-#[derive(Clone, Copy)]
-pub struct ApertureLine {
-    pub number: usize,
-    pub aperture: Aperture,
-}
-
-impl fmt::Display for ApertureLine {
+impl fmt::Display for InWords<Figure> {
     fn fmt<W: fmt::Write>(&self, f: &mut fmt::Formatter<W>) -> fmt::Result {
-        let (number, code) = (self.number, self.aperture.code);
-        match self.aperture.figure {
-            Figure::Circle { half } => {
-                let h = half.ticks;
-                write!(f, "aperture {number}: D{code} circle of half {h}")
-            }
+        match self.0 {
+            Figure::Circle { half } => write!(f, "circle of half {}", half.ticks),
             Figure::Rectangle { a, b } => {
-                let (a, b) = (a.ticks, b.ticks);
-                write!(
-                    f,
-                    "aperture {number}: D{code} rectangle of halves {a} and {b}"
-                )
+                write!(f, "rectangle of halves {} and {}", a.ticks, b.ticks)
             }
-            Figure::Obround { a, b } => {
-                let (a, b) = (a.ticks, b.ticks);
-                write!(
-                    f,
-                    "aperture {number}: D{code} obround of halves {a} and {b}"
-                )
-            }
-            Figure::Block { first } => {
-                write!(f, "aperture {number}: D{code} block from object {first} on")
-            }
+            Figure::Obround { a, b } => write!(f, "obround of halves {} and {}", a.ticks, b.ticks),
+            Figure::Block { first } => write!(f, "block from object {first} on"),
         }
     }
 }
 
-#[derive(Clone, Copy)]
-struct Shown {
-    outline: Outline,
-}
-
-fn show_flash<W: fmt::Write>(outline: Outline, f: &mut fmt::Formatter<W>) -> fmt::Result {
-    match outline {
-        Outline::Circle { at, half } => {
-            let (at, h) = (point(at), half.ticks);
-            write!(f, "circle at {at} of half {h}")
-        }
-        Outline::Rectangle { at, a, b } => {
-            let (at, a, b) = (point(at), a.ticks, b.ticks);
-            write!(f, "rectangle at {at} of halves {a} and {b}")
-        }
-        Outline::Obround { at, a, b } => {
-            let (at, a, b) = (point(at), a.ticks, b.ticks);
-            write!(f, "obround at {at} of halves {a} and {b}")
-        }
-        Outline::Block { number, at, mirror } => {
-            let (at, mirrored) = (point(at), mirror_words(mirror));
-            write!(f, "block of aperture {number} at {at}{mirrored}")
-        }
-        _ => Ok(()),
-    }
-}
-
-impl fmt::Display for Shown {
+impl fmt::Display for InWords<Outline> {
     fn fmt<W: fmt::Write>(&self, f: &mut fmt::Formatter<W>) -> fmt::Result {
-        match self.outline {
-            Outline::Stroke { from, to, half } => {
-                let (from, to, h) = (point(from), point(to), half.ticks);
-                write!(f, "stroke from {from} to {to} of half {h}")
+        match self.0 {
+            Outline::Circle { at, half } => {
+                write!(f, "circle at {} of half {}", InWords(at), half.ticks)
             }
+            Outline::Rectangle { at, a, b } => write!(
+                f,
+                "rectangle at {} of halves {} and {}",
+                InWords(at),
+                a.ticks,
+                b.ticks
+            ),
+            Outline::Obround { at, a, b } => write!(
+                f,
+                "obround at {} of halves {} and {}",
+                InWords(at),
+                a.ticks,
+                b.ticks
+            ),
+            Outline::Stroke { from, to, half } => write!(
+                f,
+                "stroke from {} to {} of half {}",
+                InWords(from),
+                InWords(to),
+                half.ticks
+            ),
             Outline::Arc {
                 from,
                 to,
-                centre: c,
+                centre,
                 clockwise,
                 half,
-            } => {
-                let (from, to, c, h) = (point(from), point(to), centre(c), half.ticks);
-                let sense = if clockwise {
+            } => write!(
+                f,
+                "{} arc from {} to {} about {} of half {}",
+                if clockwise {
                     "clockwise"
                 } else {
                     "counterclockwise"
-                };
-                write!(f, "{sense} arc from {from} to {to} about {c} of half {h}")
-            }
+                },
+                InWords(from),
+                InWords(to),
+                InWords(centre),
+                half.ticks
+            ),
             Outline::Contour {
                 start,
                 first,
                 count,
-            } => {
-                let start = point(start);
-                write!(
-                    f,
-                    "contour from {start} along {count} pieces from piece {first} on"
-                )
-            }
-            _ => show_flash(self.outline, f),
+            } => write!(
+                f,
+                "contour from {} along {count} pieces from piece {first} on",
+                InWords(start)
+            ),
+            Outline::Block { number, at, mirror } => write!(
+                f,
+                "block of aperture {number} at {}{}",
+                InWords(at),
+                InWords(mirror)
+            ),
         }
     }
 }
 
-#[derive(Clone, Copy)]
-struct Belongs {
-    owner: Owner,
-}
-
-impl fmt::Display for Belongs {
+// Where an object belongs, behind its outline.
+impl fmt::Display for InWords<Owner> {
     fn fmt<W: fmt::Write>(&self, f: &mut fmt::Formatter<W>) -> fmt::Result {
-        match self.owner {
+        match self.0 {
             Owner::Layer => Ok(()),
             Owner::Block(number) => write!(f, ", in the block of aperture {number}"),
-            Owner::Repeat(r) => {
-                let (i, j, x, y) = (r.columns, r.rows, r.step_x, r.step_y);
-                write!(f, ", in a step and repeat of {i} by {j}, steps {x} and {y}")
-            }
+            Owner::Repeat(r) => write!(
+                f,
+                ", in a step and repeat of {} by {}, steps {} and {}",
+                r.columns, r.rows, r.step_x, r.step_y
+            ),
         }
     }
 }
 
-/// One object record on a line.
+/// A record and its number, on a line.
 #[derive(Clone, Copy)]
-pub struct ObjectLine {
+pub struct Numbered<T> {
     pub number: usize,
-    pub object: Object,
+    pub record: T,
 }
 
-impl fmt::Display for ObjectLine {
+impl fmt::Display for Numbered<Aperture> {
     fn fmt<W: fmt::Write>(&self, f: &mut fmt::Formatter<W>) -> fmt::Result {
-        let number = self.number;
-        let colour = match self.object.polarity {
-            Polarity::Dark => "dark",
-            Polarity::Clear => "clear",
-        };
-        let shown = Shown {
-            outline: self.object.outline,
-        };
-        let belongs = Belongs {
-            owner: self.object.owner,
-        };
-        write!(f, "object {number}: {colour} {shown}{belongs}")
+        let Aperture { code, figure } = self.record;
+        write!(f, "aperture {}: D{code} {}", self.number, InWords(figure))
     }
 }
 
-/// One piece record on a line.
-#[derive(Clone, Copy)]
-pub struct PieceLine {
-    pub number: usize,
-    pub piece: Piece,
+impl fmt::Display for Numbered<Object> {
+    fn fmt<W: fmt::Write>(&self, f: &mut fmt::Formatter<W>) -> fmt::Result {
+        let Object {
+            polarity,
+            owner,
+            outline,
+        } = self.record;
+        write!(
+            f,
+            "object {}: {} {}{}",
+            self.number,
+            InWords(polarity),
+            InWords(outline),
+            InWords(owner)
+        )
+    }
 }
 
-impl fmt::Display for PieceLine {
+impl fmt::Display for Numbered<Piece> {
     fn fmt<W: fmt::Write>(&self, f: &mut fmt::Formatter<W>) -> fmt::Result {
-        let (number, end) = (self.number, point(self.piece.end));
-        write!(f, "piece {number}: to {end}")
+        write!(f, "piece {}: to {}", self.number, InWords(self.record.end))
     }
 }

@@ -1,17 +1,14 @@
-use Rattle.std.proofs.Common.{◌-◌, length, take, sym, ap, ◌∙◌, arith}
-use Rattle.laying.proofs.Pieces.{all_of, few_of, no_pieces, seen_part}
+use Rattle.contour.specs.declared.pieces.Piece.{Piece}
+use Rattle.laid.proofs.Slices.{front_of, rest_of}
+use Rattle.laying.proofs.Pieces.{seen_part}
 use Rattle.laying.proofs.contours.part.Goals as goal
+use Rattle.std.proofs.Common.{◌≡◌, List, Bor, drop, take, refl, ap, ◌∙◌}
 
-pub returns-then-first-pieces : goal.returns-then-first-pieces
-returns-then-first-pieces c =
-    seen_part c.args.pieces.now c.args.first c.args.count _ (sym (no_pieces c.args.pieces.now c.args.first c.args.count (omega arith)))
-
-pub returns-then-count-rest : goal.returns-then-count-rest
-returns-then-count-rest c =
+pub returns : goal.returns
+returns c =
     let ps = c.args.pieces.now in
-    let whole = all_of ps c.args.first (length ps - c.args.first) (omega arith) in
-    seen_part ps c.args.first c.args.count _ (whole ∙ sym (all_of ps c.args.first c.args.count (few_of ps c.args.first c.args.count c.if-count-rest.true)))
-
-pub returns-else-count-rest : goal.returns-else-count-rest
-returns-else-count-rest c =
-    seen_part c.args.pieces.now c.args.first c.args.count _ (ap (take c.args.count) (all_of c.args.pieces.now c.args.first (length c.args.pieces.now - c.args.first) (omega arith)))
+    let rest : c.unwrap_or-rest.result.now ≡ drop c.args.first ps =
+    ap (λ (s : Bor (List Piece)). s.now) c.unwrap_or-rest.ensures ∙ rest_of ps c.args.first _ c.get.result refl c.get.ensures.lookup in
+    let front : c.unwrap_or.result.now ≡ take c.args.count c.unwrap_or-rest.result.now =
+    ap (λ (s : Bor (List Piece)). s.now) c.unwrap_or.ensures ∙ front_of c.unwrap_or-rest.result.now c.args.count c.unwrap_or-rest.result c.get-2.result refl c.get-2.ensures.lookup in
+    seen_part ps c.args.first c.args.count _ (front ∙ ap (take c.args.count) rest)

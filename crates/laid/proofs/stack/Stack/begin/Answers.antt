@@ -4,4 +4,4 @@ use Rattle.std.proofs.Common.{refl}
 
 pub returns : goal.returns
 returns c =
-    begins c.args.drawing.now c.args.object c.args.shift.x c.args.shift.y _ c.args.self.now c.take_up.new.self c.take_up.result refl c.shift_by.ensures.put refl c.take_up.ensures
+    begins c.args.drawing.now c.args.object c.args.shift.x c.args.shift.y _ c.args.self.now c.take_up.new.self c.take_up.result refl c.placing.ensures.put refl c.take_up.ensures

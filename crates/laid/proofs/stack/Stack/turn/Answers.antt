@@ -1,30 +1,22 @@
-use Rattle.std.proofs.Common.{◌-◌, ◌<◌, length, get_or, refl, ap, arith, rules}
-use Rattle.laid.proofs.Walks.{closes_top, moves_top}
+use Rattle.laid.proofs.Walks.{Levels, closes, level_top, levels_push, levels_rest, moves}
 use Rattle.laid.proofs.stack.Stack.turn.Goals as goal
-use Rattle.laid.specs.Frames.{idle}
-use Rattle.laid.specs.declared.kinds.Frame.{Frame}
-use Rattle.std.proofs.lemmas.List.{get_or_default}
+use Rattle.plane.specs.declared.points.Placing.{Placing}
+use Rattle.std.proofs.Common.{◌+◌, ◌≤◌, length, sym, subst, arith}
 
-pub returns-in_default : goal.returns-in_default
-returns-in_default c =
-    let s = c.args.self.now in
-    let i = s.n - 1 in
-    let h : i < length s.frames = search rules in
-    closes_top c.args.drawing.now s i (get_or s.frames i c.index-self-i.result) (get_or_default s.frames i idle c.index-self-i.result h) (omega arith) _ refl refl c.in_default.ensures
+pub returns-in_err-object : goal.returns-in_err-object
+returns-in_err-object c = rw c.from_residual-in_err-object.ensures (closes c.args.drawing.now c.args.self.now _ c.in_ok-top.top c.in_ok-top.ensures.items c.in_err-object.ensures)
 
-pub take_up-requires : goal.take_up-requires
-take_up-requires c =
-    let s = c.args.self.now in
-    let i = s.n - 1 in
-    let h : i < length s.frames = search rules in
-    let e = ap (λ (f : Frame). f.placing.level) (get_or_default s.frames i idle c.index-self-i.result h) in
-    let l = s.levels i (omega arith) in
-    record { low = (get_or s.frames i c.index-self-i.result).low; level = omega arith }
+pub invariant_of-self-2 : goal.invariant_of-self-2
+invariant_of-self-2 c =
+    let rest = c.pop.new.self.items in
+    let all = subst Levels c.in_ok-top.ensures.items c.args.self.now.levels in
+    let top = subst (λ (p : Placing). p.level ≤ length rest + 1) (sym c.in_ok-object.ensures.placing) (level_top rest c.in_ok-top.top all) in
+    record {
+      few = omega (arith, c.in_ok-top.ensures.len);
+      levels = subst Levels (sym c.push.ensures.items) (levels_push rest c.next_object.new.self (levels_rest rest c.in_ok-top.top all) top);
+    }
 
 pub returns : goal.returns
 returns c =
-    let s = c.args.self.now in
-    let i = s.n - 1 in
-    let h : i < length s.frames = search rules in
-    moves_top c.args.drawing.now s i (get_or s.frames i c.index-self-i.result) (get_or_default s.frames i idle c.index-self-i.result h) (omega arith) _ c.take_up.new.self c.in-Some.step _ c.take_up.result h c.in-Some.ensures
-    refl refl refl refl refl c.take_up.ensures
+    moves c.args.drawing.now c.args.self.now _ c.take_up.new.self c.pop.new.self.items c.in_ok-top.top c.next_object.new.self c.in_ok-object.object c.take_up.result
+    c.in_ok-top.ensures.items c.push.ensures.items c.in_ok-object.ensures c.take_up.ensures

@@ -1,9 +1,0 @@
-use Rattle.laying.proofs.Leaves.{exposed_lays, unseen_lays}
-use Rattle.laying.proofs.Pieces.{made_covers, unmade_covers}
-use Rattle.laying.proofs.contours.lay_chain.Goals as goal
-
-pub returns-in_default : goal.returns-in_default
-returns-in_default g c = unseen_lays c.args.window _ _ c.args.dark _ (unmade_covers c.args.start c.args.pieces.now c.args.placing c.in_default.ensures)
-
-pub returns : goal.returns
-returns g c = exposed_lays c.args.window _ (made_covers c.args.start c.args.pieces.now c.args.placing c.in-Some.contour c.in-Some.ensures) c.expose.ensures
