@@ -50,7 +50,7 @@ class Function:
         self.where = f"{crate}/src/{file}:{line} {name}"
 
     def parameters(self):
-        inner = self.signature[self.signature.find("(") + 1 :]
+        inner = self.signature[self.signature.find("(", self.signature.find("fn ")) + 1 :]
         depth, at = 1, 0
         while at < len(inner) and depth:
             depth += inner[at] in "([{"

@@ -15,7 +15,7 @@ fn is_closed(start: FilePoint, pieces: &[Piece]) -> bool
 }
 
 impl<'a> Contour<'a> {
-    /// The contour, or nothing if it is not closed.
+    /// The contour, or nothing if it is not closed. (No `then_some`, which would make it before the test.)
     pub fn new(start: FilePoint, pieces: &'a [Piece], placing: Placing) -> Option<Contour<'a>>
         ensures { seen_contour result ≡ made_contour start pieces.now placing }
     {

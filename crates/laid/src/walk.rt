@@ -48,6 +48,7 @@ impl Stack {
         requires { around.placing.level ≤ array_vec_len self.old.frames }
         ensures { TakenUp drawing.now around.block (placed_in around object) self.old result self.new }
     {
+        // no `?`: what is no flash is to lay now
         let Some(flash) = flash_of(object.outline) else {
             return Some(PlacedObject {
                 object,

@@ -4,7 +4,7 @@ ghost use Rattle.plane.specs.Points.{made, made_half, seen_spot, seen_half};
 use crate::points::{Half, Spot};
 
 impl<const LIMIT: u32> Spot<LIMIT> {
-    /// The point, or nothing past the limit.
+    /// The point, or nothing past the limit. (Here and below no `then_some`, which would make it before the test.)
     pub fn new(x: i32, y: i32) -> Option<Spot<LIMIT>>
         ensures { seen_spot result ≡ made (min LIMIT 1000000) x y }
     {

@@ -25,7 +25,7 @@ fn fits(u: Vector, v: Vector) -> bool
     u != Vector { x: 0, y: 0 } && is_nearly_round(u, v) && (u == v || !is_same_direction(u, v))
 }
 
-// The ends of an arc fit its centre.
+// The ends of an arc fit its centre. (Ends and centre stay three: each caller has them apart.)
 pub(crate) fn arc_fits(centre: FileCentre, from: FilePoint, to: FilePoint) -> bool
     ensures { result ≡ arc_fits (way (file_centre_at centre) (file_point_at from)) (way (file_centre_at centre) (file_point_at to)) }
 {

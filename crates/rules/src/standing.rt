@@ -23,7 +23,7 @@ impl Region {
 }
 
 impl State {
-    // Format and unit have both come.
+    // Format and unit have both come. (Pairs of other kinds are asked for their absence elsewhere.)
     fn is_ready(self) -> bool
         ensures { result ≡ ready (seen_state self) }
     {

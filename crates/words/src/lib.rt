@@ -17,7 +17,8 @@ ghost use Rattle.std.specs.List.{between, prefix_len};
 ghost use Rattle.words.specs.Spelling.{ClosedByGap, WordsAreTheFile};
 ghost use Rattle.words.specs.Words.{Moves, closing, content_end, fault, is_content, is_gap, next_word, seen_word, star_after, text_told, told_text, word_start, piece};
 
-// Why the text layer refuses a file. `place` is an offset, `taken` the number of commands before it.
+// Why the text layer refuses a file. `place` is an offset, `taken` the number of commands before it;
+// each case has them, since what each refusal tells is said case by case.
 #[derive(Clone, Copy, PartialEq, Eq, Debug)]
 pub enum TextFault {
     // a byte that is not allowed where it stands
