@@ -11,7 +11,7 @@ use words::Cursor;
 
 // Reads a file from its start and answers how many objects it lays.
 // The tables stand apart, here and in what is called: of a struct that owns the three, the proof does not
-// know what the lent slots hold at its end.
+// know what the lent slots hold at its end, and one that borrows them is not covered by the check.
 pub(crate) fn read_commands(
     file: &[u8],
     apertures: &mut Table<'_, Aperture>,

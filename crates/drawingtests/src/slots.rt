@@ -38,11 +38,11 @@ fn records_before_a_refusal_stay(rt: HostRuntime) -> Result<(), Fail> {
     );
     assert_eq!(rt; memory.apertures[0].code, 10);
     assert_eq!(rt; memory.apertures[3].code, 20);
-    assert!(rt; matches!(memory.apertures[3].figure, Figure::Block { first: 1 }));
+    assert_eq!(rt; memory.apertures[3].figure, Figure::Block { first: 1 });
     assert_eq!(rt; memory.apertures[4].code, 7);
-    assert!(rt; matches!(memory.objects[0].owner, Owner::Layer));
-    assert!(rt; matches!(memory.objects[1].owner, Owner::Block(3)));
-    assert!(rt; matches!(memory.objects[2].owner, Owner::Block(777)));
+    assert_eq!(rt; memory.objects[0].owner, Owner::Layer);
+    assert_eq!(rt; memory.objects[1].owner, Owner::Block(3));
+    assert_eq!(rt; memory.objects[2].owner, Owner::Block(777));
     assert_eq!(rt; memory.pieces[0].end.x, 77);
     Ok(())
 }
@@ -74,7 +74,7 @@ fn owners_and_numbers(rt: HostRuntime) -> Result<(), Fail> {
     let d = memory.read(file.as_bytes()).ok().ok_or("refused")?;
     assert_eq!(rt; (d.apertures, d.objects, d.pieces, d.laid), (4, 3, 0, 7));
     assert!(rt; memory.objects.len() == 8);
-    assert!(rt; matches!(memory.objects[0].owner, Owner::Block(3)));
+    assert_eq!(rt; memory.objects[0].owner, Owner::Block(3));
     match memory.objects[1].owner {
         Owner::Repeat(r) => {
             assert_eq!(rt; (r.first, r.columns, r.rows), (1, 2, 3));

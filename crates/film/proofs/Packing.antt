@@ -1,9 +1,10 @@
 -- One bit more of a byte, and one byte more of a row.
-use Rattle.std.proofs.Common.{◌≡◌, ℕ, zero, suc, ◌+◌, ◌^◌, ◌<◌, ◌≤◌, Bool, true, false, cond, ◌&&◌, ltb, leb, List, [], ◌∷◌, ◌++◌, map, length, get_or, drop, set, Ok, Err, Result, sym, refl, ap, ◌∙◌, append_assoc, arith, pow_mono}
+use Rattle.std.proofs.Common.{◌≡◌, ℕ, zero, suc, ◌+◌, ◌^◌, ◌<◌, ◌≤◌, Bool, true, false, cond, ◌&&◌, ltb, leb, List, [], ◌∷◌, ◌++◌, map, length, get_or, take, drop, set, Ok, Err, Result, sym, refl, ap, ◌∙◌, append_assoc, arith, pow_mono}
 use native.Mathlib.Nat.{two-pow-succ}
 use Rattle.std.specs.List.{range_with_len}
 use Rattle.std.proofs.lemmas.List.FromFn.{map-range_with_len_more, length-map-range_with_len}
-use Rattle.std.proofs.lemmas.List.{drop_more, set_at}
+use Rattle.std.proofs.lemmas.List.{append-nil, drop_more, set_at, length-take-le}
+use Rattle.std.proofs.Math.ListN.{drop_of_length-le}
 use Rattle.std.proofs.lemmas.Bool.{ltb-true, leb-true}
 use Rattle.std.proofs.lemmas.Bool.Decides.{nat_tests}
 use Rattle.film.specs.Frame.{Frame}
@@ -55,3 +56,13 @@ unfolding row_bytes
 pack_ends m row out xs k h l e i =
     let on : (ltb row m.frame.height && leb (bytes_for m.frame.width) (length out)) ≡ true = grind (arith, nat_tests) in
     (rw e at i) ∙ ap (λ b. cond b (row_bytes m row ++ drop (bytes_for m.frame.width) out) out) (sym on)
+
+-- the same of a loop over the n bytes alone
+pub pack_front : (m : Meaning) (row : ℕ) (out xs : List ℕ) (k n : ℕ) → row < m.frame.height → bytes_for m.frame.width ≤ length out
+    → n ≡ bytes_for m.frame.width → k ≡ n → xs ≡ map (byte_of (inked m row)) (range_with_len 0 k) ++ drop k (take n out) → xs ++ drop n out ≡ packed m row out
+pack_front m row out xs k n h l e j i =
+    let f = byte_of (inked m row) in
+    let t : length (take n out) ≡ n = length-take-le n out (omega arith) in
+    let z : drop k (take n out) ≡ [] = drop_of_length-le (take n out) (omega arith) in
+    let p : xs ≡ map f (range_with_len 0 k) = i ∙ ap (λ ys. map f (range_with_len 0 k) ++ ys) z ∙ append-nil (map f (range_with_len 0 k)) in
+    pack_ends m row out (xs ++ drop n out) k h l (j ∙ e) (ap (λ ys. ys ++ drop n out) p ∙ ap (λ q. map f (range_with_len 0 k) ++ drop q out) (sym j))

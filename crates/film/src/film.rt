@@ -35,14 +35,13 @@ pub trait Film {
         ensures bytes { out.new ≡ packed (meaning self.now) row out.old }
     {
         let bytes = self.numbers().packed_length(row, out.len())?;
-        // The index is also the byte's place, which tells its columns.
-        for k in 0..bytes {
+        for (k, packed) in out[..bytes].iter_mut().enumerate() {
             let mut byte = 0;
             for j in 0..8 {
                 let pixel = self.read(8 * k as u32 + j, row);
                 byte = with_bit(byte, pixel.unwrap_or(false));
             }
-            out[k] = byte;
+            *packed = byte;
         }
         Ok(())
     }

@@ -89,6 +89,18 @@ impl Numbers {
         }
     }
 
+    // The window of all its pixels.
+    pub fn whole(self) -> Window
+        ensures { result ≡ record { x = 0; y = 0; width = self.width; height = self.height } }
+    {
+        Window {
+            x: 0,
+            y: 0,
+            width: self.width,
+            height: self.height,
+        }
+    }
+
     // Whether the window holds a pixel and lies on a film of these numbers.
     pub fn has(self, v: Window) -> bool
         ensures { result ≡ window_on (frame_of self) v }

@@ -40,7 +40,7 @@ pub(crate) struct FilmPlan {
     pub(crate) grid: Grid,
 }
 
-// What lies over the film, from below to above: a mirror or none, a negative or none, whatever the other.
+// What lies over the film, from below to above.
 #[derive(Clone, Copy, Default)]
 pub(crate) struct PilePlan {
     pub(crate) cut: Option<Window>,
@@ -142,6 +142,7 @@ pub(crate) fn expose_on<W: Work>(
     pile: PilePlan,
     work: &W,
 ) -> Result<(), Stop> {
+    // a match, since the work tells the refusal in its own words
     match Numbers::new(film.grid) {
         Ok(n) => {
             work.tell(rt, format_args!("film {} {}", n.width, n.height))?;

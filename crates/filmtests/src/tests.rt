@@ -15,7 +15,7 @@ use std::alloc::Global;
 use std::process::Abort;
 use std::test::Fail;
 
-// A row as packed, or 0 where it is refused, which no row of a picture is.
+// A row as packed, or 0 where it is refused, as the rows of a picture below the last are.
 fn packed<F: Film>(film: &F, row: u32) -> u8 {
     let mut out = [0u8];
     match film.pack_row(row, &mut out) {

@@ -120,7 +120,8 @@ fn operation(content: Rest<'_>, longest: usize) -> Option<Command<'_>>
 pub(crate) fn plain_command(content: Rest<'_>, longest: usize) -> Option<Command<'_>>
     ensures { seen_option result ≡ plain_of longest (left content.entry) }
 {
-    // an `or_else` would have to spell out the contract of each closure, since `Rest` has a ghost field
+    // `or` would try every form each time, and `or_else` would have to spell out the contract of each
+    // closure, since `Rest` has a ghost field
     if let Some(command) = comment(content) {
         return Some(command);
     }

@@ -7,6 +7,7 @@ ghost use Rattle.plane.specs.Points.{file_point_at};
 use crate::kinds::{Flash, Shift};
 use plane::points::Placing;
 
+// As in plane, of a smaller limit, by which a sum of shifts is known to fit.
 fn turn(mirror: bool, z: i32) -> i32
     requires { unsigned_abs z ≤ 30000 }
     ensures value { result ≡ turned mirror z }

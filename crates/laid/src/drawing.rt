@@ -6,7 +6,7 @@ use contour::pieces::Piece;
 use records::kinds::{Aperture, Object};
 use records::weights::Weight;
 
-/// The records of a drawing: three lists of different kinds, none beside another.
+/// The records of a drawing: three kinds, each in a table of its own.
 #[derive(Clone, Copy)]
 pub struct Records<'a> {
     pub apertures: &'a [Aperture],

@@ -1,4 +1,5 @@
 // What is laid, and the places of the blocks that it stands in.
+// `turn` is a flag and no Option: it says whether the clear flashes around are odd in number.
 ghost use Rattle.std.specs.Prelude.{◌≤◌};
 
 use plane::points::{FilePoint, Placing};
@@ -17,7 +18,6 @@ pub struct Flash {
 pub struct PlacedObject {
     pub object: Object,
     pub placing: Placing,
-    // a flag: the placing is there whether the polarity is turned or not
     pub turn: bool,
 }
 
@@ -37,7 +37,6 @@ pub struct Frame {
     pub next: usize,
     pub block: usize,
     pub placing: Placing,
-    // a flag: the placing is there whether the polarity is turned or not
     pub turn: bool,
     ghost low: { block ≤ 128 },
 }

@@ -51,8 +51,7 @@ fn lay_group<F: Film>(pane: &mut Pane<F>, drawing: &Drawing, objects: &[Object],
     }
 }
 
-// Lays the copy of a step and repeat in column `a` and row `b`. (The pane is painted on and the drawing
-// read: a struct of both would have to say at each call that the drawing stays.)
+// Lays the copy of a step and repeat in column `a` and row `b`.
 fn lay_copy<F: Film>(pane: &mut Pane<F>, drawing: &Drawing, repeat: Repeat, a: u32, b: u32)
     ensures { Lays (seen_pane pane.old) (copy_at drawing.now repeat a b) (seen_pane pane.new) }
 {
@@ -64,6 +63,7 @@ fn lay_copy<F: Film>(pane: &mut Pane<F>, drawing: &Drawing, repeat: Repeat, a: u
 fn lay_column<F: Film>(pane: &mut Pane<F>, drawing: &Drawing, repeat: Repeat, a: u32)
     ensures { Lays (seen_pane pane.old) (column_at drawing.now repeat a) (seen_pane pane.new) }
 {
+    // The number of the row says how far the copy is moved.
     for b in 0..repeat.rows {
         lay_copy(pane, drawing, repeat, a, b);
     }
@@ -73,6 +73,7 @@ fn lay_column<F: Film>(pane: &mut Pane<F>, drawing: &Drawing, repeat: Repeat, a:
 fn lay_repeat<F: Film>(pane: &mut Pane<F>, drawing: &Drawing, repeat: Repeat)
     ensures { Lays (seen_pane pane.old) (all_copies drawing.now repeat) (seen_pane pane.new) }
 {
+    // The number of the column says how far its copies are moved.
     for a in 0..repeat.columns {
         lay_column(pane, drawing, repeat, a);
     }

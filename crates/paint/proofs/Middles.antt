@@ -1,4 +1,4 @@
-use Rattle.std.proofs.Common.{◌≡◌, ℕ, ◌+◌, ◌-◌, ◌*◌, ◌/◌, ◌<◌, ◌≤◌, nat_abs, mod-lt, mul_comm, mul-le-mul_left, mul-add, arith}
+use Rattle.std.proofs.Common.{◌≡◌, ℕ, ◌+◌, ◌-◌, ◌*◌, ◌/◌, ◌<◌, ◌≤◌, nat_abs, mod-lt, mul-le-mul_left, mul-add, arith}
 use Rattle.film.specs.Frame.{Frame, Limits}
 use Rattle.paint.specs.Axes.{middle_of}
 use Rattle.std.proofs.lemmas.Int.{ints}
@@ -13,10 +13,6 @@ below_div p d k h l =
 pub past_div : (p d k : ℕ) → 2 ≤ p → d / p + 1 ≤ k → d < p * k + p / 2
 past_div p d k h l =
     let z : 0 < p = omega arith in omega (arith, simp mul-add at (mul-le-mul_left p l), div-add-mod d p, mod-lt d z)
-
--- a step's middle is not far
-pub small_middle : (p n count : ℕ) → n < count → count * p ≤ 60000 → p * n ≤ 60000
-small_middle p n count h l = let s : n ≤ count = omega arith in omega (arith, mul-le-mul_left p s, mul_comm p count)
 
 -- the middles of a film's columns and rows are points that shapes answer for
 pub column_near : (f : Frame) → Limits f → (k : ℕ) → k < f.width → nat_abs (middle_of f.ox f.pitch k) ≤ 1000000

@@ -51,6 +51,7 @@ impl<'a, F: Film> Pane<'a, F> {
         ensures { Repainted (seen_pane self.old) (λ c r. in_span span.row span.first span.end c r && centre_covered (F.meaning self.old.film.now) (S.covered shape.now) c r) dark (seen_pane self.new) }
     {
         let mut rest = span;
+        // The number of the column says where its centre lies.
         for col in span.first..span.end {
             if !shape.covers(centre(self.numbers, col, span.row)) {
                 self.put(Span { end: col, ..rest }, dark);

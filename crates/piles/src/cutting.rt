@@ -19,12 +19,7 @@ fn fitting(n: Numbers, v: Window) -> Window
     if n.has(v) {
         return v;
     }
-    Window {
-        x: 0,
-        y: 0,
-        width: n.width,
-        height: n.height,
-    }
+    n.whole()
 }
 
 // The place n pixels on from `o`.
@@ -97,6 +92,7 @@ impl<F: Film> Film for CutOut<F> {
         cut_numbers(n, fitting(n, self.window))
     }
 
+    // here and below the window tells its size by itself: Numbers of it would be made at each pixel
     fn read(&self, col: u32, row: u32) -> Result<bool, FilmFault> {
         let v = self.fitted_window();
         if col >= v.width || row >= v.height {

@@ -29,6 +29,7 @@ impl<F: Film> Film for Mirror<F> {
         self.below.numbers()
     }
 
+    // here and below columns alone are tested: the film below tests the row
     fn read(&self, col: u32, row: u32) -> Result<bool, FilmFault> {
         let width = self.below.numbers().width;
         if col >= width {

@@ -1,4 +1,5 @@
 // Plotting a file on a film.
+// Film, window, file and slots are all that a plot is of, and go through three functions alone.
 ghost use Rattle.std.specs.Prelude.{◌≡◌, ◌≤◌, true, map, length, take, is_err};
 ghost use Rattle.drawing.specs.Answers.{told_plot};
 ghost use Rattle.drawing.specs.Slots.{SameSlots};
@@ -29,8 +30,7 @@ fn read_records(file: &[u8], slots: &mut Slots<'_>) -> Result<Drawing, PlotFault
     read_drawing(file, slots)
 }
 
-// The same for a plot within a window: a bad window is refused before the file is looked at. (The film
-// is altered, the slots are filled, the file is read: a struct of them would only be taken apart again.)
+// The same for a plot within a window: a bad window is refused before the file is looked at.
 fn read_within<F: Film>(
     film: &F,
     window: Window,
@@ -86,12 +86,7 @@ pub(crate) fn whole<F: Film>(film: &F) -> Window
     ensures fits { window_on (F.meaning film.now).frame result ≡ true }
 {
     let n = film.numbers();
-    Window {
-        x: 0,
-        y: 0,
-        width: n.width,
-        height: n.height,
-    }
+    n.whole()
 }
 
 /// Plots a file on the whole film.

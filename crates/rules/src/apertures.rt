@@ -58,8 +58,8 @@ impl Desk<'_> {
         self.define(self.state, code, Figure::Circle { half })
     }
 
-    // This and the next differ in their figure alone: one function of both would take it as a closure, with
-    // a longer contract than the two.
+    // This and the next differ in their figure alone: a function of both, or of their two halves, has a
+    // longer contract than the lines that it saves.
     pub(crate) fn rectangle(&self, code: u32, width: u64, height: u64) -> Result<Decision, Rule>
         ensures { seen_decided result ≡ leaves (seen_state self.now.state) (rectangle_defined (scale_of (seen_state self.now.state)) (map seen_aperture self.now.apertures.now) code width height) }
     {

@@ -21,6 +21,7 @@ pub fn write_film<F: Film>(film: &F, out: &mut [u8]) -> Result<usize, SheetFault
         // Every row is on the film and of the sheet's width, so that none is refused.
         let _ = sheet.write_row(film, row, out);
     }
+    // a match, since an open sheet cannot be let go
     match sheet.close() {
         Ok(closed) => Ok(closed.length),
         Err(_) => unreachable(),

@@ -1,4 +1,7 @@
 // A test card on a bitmap film, written as a PBM sheet.
+ghost use Rattle.std.specs.Prelude.{◌≡◌, true, pos, IfOk};
+ghost use Rattle.film.specs.Frame.{framed, in_limits};
+
 use crate::sheets::{Measures, put_sheet};
 use crate::stop::{Stop, stop_with};
 use bitmap::bitmap::Bitmap;
@@ -35,7 +38,9 @@ fn draw_card(mut film: Bitmap) -> Bitmap {
 }
 
 // A clear film of this size, with its lower left corner at the origin.
-fn new_film(rt: &HostRuntime, size: Size, pitch: u32) -> Result<Bitmap, Stop> {
+fn new_film(rt: &HostRuntime, size: Size, pitch: u32) -> Result<Bitmap, Stop>
+    ensures { IfOk result (λ _. in_limits (framed size.width size.height pitch (pos 0) (pos 0)) ≡ true) }
+{
     let Size { width, height } = size;
     // a film past the limits is refused by its numbers, whatever its memory
     let bytes = row_length(width)
@@ -55,7 +60,9 @@ fn new_film(rt: &HostRuntime, size: Size, pitch: u32) -> Result<Bitmap, Stop> {
 }
 
 /// Draws a test card and writes it to `path`.
-pub fn expose_card(rt: &HostRuntime, path: &str, size: Size, pitch: u32) -> Result<(), Stop> {
+pub fn expose_card(rt: &HostRuntime, path: &str, size: Size, pitch: u32) -> Result<(), Stop>
+    ensures { IfOk result (λ _. in_limits (framed size.width size.height pitch (pos 0) (pos 0)) ≡ true) }
+{
     let film = draw_card(new_film(rt, size, pitch)?);
     let bytes = put_sheet(rt, &film, path)?;
     println!(rt;

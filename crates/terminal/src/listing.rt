@@ -1,4 +1,8 @@
 // Listing a file's commands.
+ghost use Rattle.std.specs.Prelude.{◌≡◌, true, IfErr};
+ghost use Rattle.terminal.specs.Stops.{listing_told, was_told};
+ghost use Rattle.terminal.specs.declared.listing.Listing.TheVariants.{Refused, Stopped};
+
 use crate::files::{read_file, refuse};
 use crate::position::Position;
 use crate::stop::Stop;
@@ -15,27 +19,36 @@ enum Listing {
 }
 
 impl From<CommandFault> for Listing {
+    ghost from_gives = { λ f r. r ≡ Refused f };
+
     fn from(fault: CommandFault) -> Listing {
         Listing::Refused(fault)
     }
 }
 
 impl From<Stop> for Listing {
+    ghost from_gives = { λ s r. r ≡ Stopped s };
+
     fn from(stop: Stop) -> Listing {
         Listing::Stopped(stop)
     }
 }
 
-fn print_command(rt: &HostRuntime, at: Position<'_>, command: Command<'_>) -> Result<(), Stop> {
+fn print_command(rt: &HostRuntime, at: Position<'_>, command: Command<'_>) -> Result<(), Stop>
+    ensures { IfErr result (λ s. was_told s ≡ true) }
+{
     println!(rt; "line {}, byte {}: {}", at.line, at.place, InWords(command))?;
     Ok(())
 }
 
 // Prints the commands of a file up to M02, and answers how many there are.
-fn print_commands(rt: &HostRuntime, file: &[u8]) -> Result<usize, Listing> {
+fn print_commands(rt: &HostRuntime, file: &[u8]) -> Result<usize, Listing>
+    ensures { IfErr result (λ l. listing_told l ≡ true) }
+{
     let mut cursor = Cursor::start(file);
     let mut format = None;
     let mut position = Position::first(file);
+    // a loop and no iterator: it ends behind M02, and each turn reads by the format of the last
     // a loop and no iterator: it ends behind M02, and each turn reads by the format of the last
     loop {
         let read = next_command(cursor, format)?;
@@ -51,7 +64,9 @@ fn print_commands(rt: &HostRuntime, file: &[u8]) -> Result<usize, Listing> {
 }
 
 /// Lists the commands of the file at `path`, or tells why it is refused.
-pub fn list_commands(rt: &HostRuntime, path: &str) -> Result<(), Stop> {
+pub fn list_commands(rt: &HostRuntime, path: &str) -> Result<(), Stop>
+    ensures { IfErr result (λ s. was_told s ≡ true) }
+{
     let file = read_file(rt, path)?;
     match print_commands(rt, file.as_slice()) {
         Ok(count) => {

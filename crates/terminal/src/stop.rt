@@ -1,5 +1,7 @@
 // Ending a program early.
-ghost use Rattle.std.specs.Prelude.{◌≡◌, IsErr, IsOk, ◌↔◌};
+ghost use Rattle.std.specs.Prelude.{◌≡◌, true, IfErr, IsErr, IsOk, ◌↔◌};
+ghost use Rattle.terminal.specs.Stops.{was_told};
+ghost use Rattle.terminal.specs.declared.stop.Stop.TheVariants.{Memory, Output};
 ghost use Rattle.std.specs.Process.{exit_status};
 
 use std::alloc::{AllocError, AllocFailed};
@@ -18,18 +20,24 @@ pub enum Stop {
 }
 
 impl From<AllocError> for Stop {
+    ghost from_gives = { λ _ r. r ≡ Memory };
+
     fn from(_: AllocError) -> Stop {
         Stop::Memory
     }
 }
 
 impl<T: Drop> From<AllocFailed<T>> for Stop {
+    ghost from_gives = { λ _ r. r ≡ Memory };
+
     fn from(_: AllocFailed<T>) -> Stop {
         Stop::Memory
     }
 }
 
 impl From<io::Error> for Stop {
+    ghost from_gives = { λ e r. r ≡ Output e };
+
     fn from(e: io::Error) -> Stop {
         Stop::Output(e)
     }
@@ -37,7 +45,8 @@ impl From<io::Error> for Stop {
 
 /// Tells on standard error why the program stops.
 pub fn stop_with<T, D: fmt::Display + Drop>(rt: &HostRuntime, reason: D) -> Result<T, Stop>
-    ensures { IsErr result }
+    ensures stops { IsErr result }
+    ensures told { IfErr result (λ s. was_told s ≡ true) }
 {
     eprintln!(rt; "plotter: {reason}")?;
     Err(Stop::Told)
