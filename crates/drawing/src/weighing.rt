@@ -41,7 +41,8 @@ fn too_deep(owner: Owner, depth: u32) -> bool
     matches!(owner, Owner::Block(_)) && depth >= 8
 }
 
-// How many objects are laid with one more of this owner and weight; none where that is too deep or too much.
+// How many objects are laid with one more of this owner and weight; none where that is too deep or too
+// much. (The test comes first, as a refusal does: a `then` would hide it.)
 pub(crate) fn laid_after(laid: u32, owner: Owner, weight: Weight) -> Option<u32>
     ensures { result ≡ laid_after laid owner weight }
 {

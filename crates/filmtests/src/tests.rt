@@ -50,6 +50,7 @@ const GRID: Grid = Grid {
     oy: 100,
 };
 
+// Each test crate makes its own few films and spans.
 fn span(row: u32, first: u32, end: u32) -> Span {
     Span { row, first, end }
 }

@@ -13,6 +13,7 @@ fn along(count: u32, step: u64) -> Option<u32>
     ensures { result ≡ moved (count * step) }
 {
     let ticks = (count as u64).checked_mul(step)?;
+    // no `then_some`: it would cast before the test
     if ticks <= FAR {
         Some(ticks as u32)
     } else {

@@ -23,7 +23,8 @@ pub enum Request<'a> {
     Read { column: u32, row: u32 },
 }
 
-/// How many objects a file draws, and how many were laid.
+/// How many objects a file draws, and how many were laid. (An answer names them itself, beside its other
+/// cases.)
 #[derive(Clone, Copy, PartialEq, Eq, Debug)]
 pub struct Counts {
     pub drawn: usize,

@@ -1,10 +1,9 @@
-use Rattle.std.proofs.Common.{◌≡◌, ℕ, ◌+◌, ◌<◌, ◌≤◌, min, Bool, true, false, cond, List, [], ◌∷◌, map, length, get_or, take, drop, sym, refl, ap, ◌∙◌, ⊎_elim, arith}
+use Rattle.std.proofs.Common.{◌≡◌, ℕ, ◌+◌, ◌<◌, ◌≤◌, min, Bool, cond, List, [], ◌∷◌, map, length, take, drop, sym, refl, ap, ◌∙◌, ⊎_elim, arith}
 use Rattle.std.proofs.lemmas.Bool.{cases_lt}
 use Rattle.records.specs.Records.{seen_object}
 use Rattle.records.specs.Weights.{owned_by, owned_from}
 use Rattle.records.specs.declared.kinds.Object.{Object}
 use Rattle.std.proofs.lemmas.List.{drop_all, drop-map, take-map}
-use Rattle.std.proofs.lemmas.List.Sums.{prefix_len-drop_no, prefix_len-drop_yes}
 use Rattle.std.specs.List.{prefix_len}
 
 -- a front is as long before a map as after it
@@ -26,10 +25,3 @@ owned_part os rest k n j r h =
     let d : map seen_object rest ≡ drop n (map seen_object os) = ap (map seen_object) (r ∙ drop_min os n) ∙ sym (drop-map seen_object n os) in
     let l : j ≡ prefix_len (owned_by k) (drop n (map seen_object os)) = h ∙ sym (leading_map (owned_by k) seen_object rest) ∙ ap (prefix_len (owned_by k)) d in
     sym (take-map seen_object j rest) ∙ ap (take j) d ∙ ap (λ i. take i (drop n (map seen_object os))) l
-
--- a front goes on over an element that passes, and stops at one that does not
-pub front_more : {X : Type 0} (p : X → Bool) (xs : List X) (i : ℕ) (x : X) → i < length xs → x ≡ get_or xs i x → true ≡ p x → prefix_len p (drop i xs) ≡ 1 + prefix_len p (drop (i + 1) xs)
-front_more p xs i x h e t = prefix_len-drop_yes p xs i x h (sym (t ∙ ap p e))
-
-pub front_stop : {X : Type 0} (p : X → Bool) (xs : List X) (i : ℕ) (x : X) → i < length xs → x ≡ get_or xs i x → false ≡ p x → prefix_len p (drop i xs) ≡ 0
-front_stop p xs i x h e t = prefix_len-drop_no p xs i x h (sym (t ∙ ap p e))

@@ -31,7 +31,8 @@ fn part(objects: &[Object], number: usize, first: usize) -> &[Object]
     &rest[..count]
 }
 
-// What an object weighs: a flash of a block as the block, any other is laid once.
+// What an object weighs: a flash of a block as the block, any other is laid once. (Among earlier weights;
+// drawing asks the same of whole tables.)
 fn weight_by(outline: Outline, done: &[Weight]) -> Weight
     ensures depth { result.depth ≡ depth_by done.now (seen_outline outline) }
     ensures laid { result.laid ≡ laid_by done.now (seen_outline outline) }
@@ -96,6 +97,7 @@ fn weigh_first(k: usize, apertures: &[Aperture], objects: &[Object]) -> [Weight;
 pub fn weigh_aperture(number: usize, apertures: &[Aperture], objects: &[Object]) -> Option<Weight>
     ensures { result ≡ weight_told (length apertures.now) (map seen_aperture apertures.now) (map seen_object objects.now) number }
 {
+    // the test comes first, as a refusal does: a `then` would hide it
     if number >= apertures.len() || number >= MOST {
         return None;
     }

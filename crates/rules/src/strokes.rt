@@ -70,6 +70,7 @@ impl Pen {
         })
     }
 
+    // start, end and centre stay three: each caller has them apart
     fn arc(
         self,
         from: FilePoint,

@@ -18,6 +18,7 @@ use std::process::Abort;
 use std::test::Fail;
 use testcard::card::draw_test_card;
 
+// Each test crate makes its own few films and spans.
 fn grid(width: u32, height: u32) -> Grid {
     Grid {
         width,

@@ -18,7 +18,7 @@ use words::TextFault;
 /// A refusal's number, place and reason, and how many commands were taken before it.
 #[derive(Clone, Copy)]
 pub struct Refusal {
-    // as it is printed, and as docs/REFUSALS.md lists it
+    // as it is printed, and as docs/REFUSALS.md lists it; place and taken too, 0 where the call is refused
     pub number: u32,
     pub place: usize,
     pub taken: usize,
