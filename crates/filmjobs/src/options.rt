@@ -75,6 +75,7 @@ impl Options {
     }
 }
 
+// Each program complains in its own words.
 pub(crate) fn complain(rt: &HostRuntime, about: &str, arg: &str) -> Result<(), Stop> {
     stop_with(
         rt,

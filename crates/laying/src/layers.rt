@@ -109,6 +109,7 @@ pub fn lay<F: Film>(film: &mut F, window: Window, records: Records<'_>) -> Resul
     ensures outcome { LayOutcome (F.meaning film.old) window (laid_objects (map seen_aperture records.entry.apertures.now) (map seen_object records.entry.objects.now) (map seen_piece records.entry.pieces.now)) result (F.meaning film.new) }
     ensures beside { F.beside film.new ≡ F.beside film.old }
 {
+    // the test stands here: a `Result` that holds a pane is not covered by the check
     if !film.numbers().has(window) {
         return Err(FilmFault::Window);
     }

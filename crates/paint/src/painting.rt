@@ -19,6 +19,7 @@ pub fn paint<F: Film, S: Shape>(
     ensures outcome { PaintOutcome (F.meaning film.old) window (S.covered shape.now) dark result (F.meaning film.new) }
     ensures beside { F.beside film.new ≡ F.beside film.old }
 {
+    // the test stands here: a `Result` that holds a pane is not covered by the check
     if !film.numbers().has(window) {
         return Err(FilmFault::Window);
     }

@@ -25,6 +25,7 @@ struct Wanted {
     pitch: u32,
 }
 
+// Each program complains in its own words.
 fn complain(rt: &HostRuntime, about: &str, arg: &str) -> Result<(), Stop> {
     stop_with(rt, format_args!("{about} {arg}\n{USAGE}"))
 }
