@@ -50,10 +50,12 @@ impl<'a, F: Film> Pane<'a, F> {
         requires { (span.row < self.old.numbers.height) × ((span.first ≤ span.end) × (span.end ≤ self.old.numbers.width)) }
         ensures { Repainted (seen_pane self.old) (λ c r. in_span span.row span.first span.end c r && centre_covered (F.meaning self.old.film.now) (S.covered shape.now) c r) dark (seen_pane self.new) }
     {
+        // read once, since the film may be written between two columns
+        let numbers = self.numbers;
         let mut rest = span;
         // The number of the column says where its centre lies.
         for col in span.first..span.end {
-            if !shape.covers(centre(self.numbers, col, span.row)) {
+            if !shape.covers(centre(numbers, col, span.row)) {
                 self.put(Span { end: col, ..rest }, dark);
                 rest.first = col + 1;
             }

@@ -14,7 +14,7 @@ loop-col-preserved g c =
     let row = c.args.span.row in
     let first = c.args.span.first in
     let cov : ℕ → ℕ → Bool = centre_covered (g.F.Film.meaning c.args.self.now.film.now) (g.S.Shape.covered c.args.shape.now) in
-    let f = now.self.told ∙ held.painted.painted.frame in
+    let f = c.args.self.now.told in
     let at = covered_by _ _ (g.S.Shape.covered c.args.shape.now) now.col row f c.centre.ensures.x c.centre.ensures.y c.covers.ensures in
     elim c.if-not-covers.branch [
       | then-not-covers w ↦
