@@ -6,7 +6,7 @@ use Rattle.words.specs.declared.Cursor.{Cursor}
 use Rattle.commands.specs.Files.{ReadSeen, behind, command_at, count_commands, ended, format_after, is_end, run}
 
 -- a turn of the loop: behind a command that is not the last, the file is read on
-run_more : (n k : ℕ) (xs : List ℕ) (i : ℕ) (f : Option Format) (r : ReadSeen) → k < n → Ok r ≡ command_at k xs i f → is_end r.order ≡ false
+pub run_more : (n k : ℕ) (xs : List ℕ) (i : ℕ) (f : Option Format) (r : ReadSeen) → k < n → Ok r ≡ command_at k xs i f → is_end r.order ≡ false
     → run (suc (n - (k + 1))) (k + 1) xs r.next (format_after r.order f) ≡ run (suc (n - k)) k xs i f
 run_more n k xs i f r h e z =
     let m : suc (n - (k + 1)) ≡ n - k = omega arith

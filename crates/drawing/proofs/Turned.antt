@@ -30,14 +30,14 @@ use Rattle.words.specs.declared.TextFault.{TextFault}
 room_kept : {X : Type 0} (a b : Table X) → Kept a b → room b ≡ room a
 room_kept a b k = ap (λ n. min n (length b.slots.now)) k.limit ∙ ap (min a.limit) k.size
 
-kept_all : {a b d : Table Aperture} {o q v : Table Object} {p t w : Table Piece} → KeptAll a o p b q t → KeptAll b q t d v w → KeptAll a o p d v w
+pub kept_all : {a b d : Table Aperture} {o q v : Table Object} {p t w : Table Piece} → KeptAll a o p b q t → KeptAll b q t d v w → KeptAll a o p d v w
 kept_all k l = record {
   apertures = kept_trans _ _ _ k.apertures l.apertures;
   objects = kept_trans _ _ _ k.objects l.objects;
   pieces = kept_trans _ _ _ k.pieces l.pieces;
 }
 
-rooms_kept : {a b : Table Aperture} {o q : Table Object} {p t : Table Piece} → KeptAll a o p b q t → rooms_of b q t ≡ rooms_of a o p
+pub rooms_kept : {a b : Table Aperture} {o q : Table Object} {p t : Table Piece} → KeptAll a o p b q t → rooms_of b q t ≡ rooms_of a o p
 rooms_kept {a} {b} {o} {q} {p} {t} k =
     ap (λ n. record { apertures = n; objects = room q; pieces = room t }) (room_kept a b k.apertures)
     ∙ ap (λ n. record { apertures = room a; objects = n; pieces = room t }) (room_kept o q k.objects)

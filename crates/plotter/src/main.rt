@@ -20,6 +20,7 @@ const USAGE: &str =
 // What the options ask for, besides what is carried out as they are read.
 #[derive(Drop)]
 struct Wanted {
+    // the whole option, kept as it came, so that no memory is asked for
     card: Option<String>,
     size: Option<Size>,
     pitch: u32,
@@ -31,8 +32,8 @@ fn complain(rt: &HostRuntime, about: &str, arg: &str) -> Result<(), Stop> {
 }
 
 // Takes one option; a listing is carried out at once.
-fn take_option(rt: &HostRuntime, wanted: &mut Wanted, arg: &str) -> Result<(), Stop> {
-    match arg.split_once('=') {
+fn take_option(rt: &HostRuntime, wanted: &mut Wanted, arg: String) -> Result<(), Stop> {
+    match arg.as_str().split_once('=') {
         Some(("--commands", path)) => list_commands(rt, path)?,
         Some(("--size", text)) => match size_of(text) {
             Some(size) => wanted.size = Some(size),
@@ -42,18 +43,24 @@ fn take_option(rt: &HostRuntime, wanted: &mut Wanted, arg: &str) -> Result<(), S
             Ok(pitch) => wanted.pitch = pitch,
             Err(_) => complain(rt, "--pitch wants a number, not", text)?,
         },
-        Some(("--testcard", path)) => wanted.card = Some(String::from_str(rt.alloc(), path)?),
-        _ => complain(rt, "unknown option", arg)?,
+        Some(("--testcard", _)) => wanted.card = Some(arg),
+        _ => complain(rt, "unknown option", arg.as_str())?,
     }
     Ok(())
 }
 
 // Carries out what the options ask for together.
 fn finish(rt: &HostRuntime, wanted: &Wanted) -> Result<(), Stop> {
-    match (wanted.card.as_ref(), wanted.size) {
-        (None, _) => Ok(()),
-        (Some(path), Some(size)) => expose_card(rt, path.as_str(), size, wanted.pitch),
-        (Some(_), None) => complain(rt, "a test card wants a", "--size"),
+    let Some((_, path)) = wanted
+        .card
+        .as_ref()
+        .and_then(|card| card.as_str().split_once('='))
+    else {
+        return Ok(());
+    };
+    match wanted.size {
+        Some(size) => expose_card(rt, path, size, wanted.pitch),
+        None => complain(rt, "a test card wants a", "--size"),
     }
 }
 
@@ -68,7 +75,7 @@ fn run(rt: &HostRuntime) -> Result<(), Stop> {
         return complain(rt, "nothing to do:", "no option given");
     }
     for arg in options {
-        take_option(rt, &mut wanted, arg.as_str())?;
+        take_option(rt, &mut wanted, arg)?;
     }
     finish(rt, &wanted)
 }

@@ -25,7 +25,13 @@ impl Run {
 pub(crate) fn holds(row: &[Run], col: u32) -> bool
     ensures { result ≡ list_any (λ run. in_run run col) row.now }
 {
-    row.iter().any(|run| run.holds(col))
+    // a loop and no `any`: through a negative a row is packed pixel by pixel, each by this search
+    for run in row {
+        if run.holds(col) {
+            return true;
+        }
+    }
+    false
 }
 
 // How many runs, from the first on, end before `limit`.

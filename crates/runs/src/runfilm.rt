@@ -30,7 +30,7 @@ impl Film for RunFilm {
     }
 
     fn read(&self, col: u32, row: u32) -> Result<bool, FilmFault> {
-        if !self.numbers.has_pixel(col, row) {
+        if col >= self.numbers.width || row >= self.numbers.height {
             return Err(FilmFault::Off);
         }
         Ok(holds(self.runs(row), col))

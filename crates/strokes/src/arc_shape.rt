@@ -74,6 +74,8 @@ impl Shape for ArcStroke {
 
     ghost boxed = { λ s. arc_box s.half.ticks (place_at s.centre) (place_at s.start) (place_at s.end) };
 
+    // asked at every pixel of its box: in the loop, what is of the arc alone is worked out once
+    #[inline(always)]
     #[tactic(auto, unfolding(crate::specs::Arcs::arc_at))]
     fn covers(&self, p: Point) -> bool {
         self.half.ticks > 0
